@@ -1,0 +1,93 @@
+-- The ring of draws, and the turns of `pick`. Assumes nothing.
+use Prim.Native.Nat.{ℕ, zero, suc, _+_, _-_, _*_, _/_, _%_, _≤_, _<_}
+use mathlib.Core.Path.{_≡_, refl, sym, ap, _∙_}
+use mathlib.Core.Bool.{Bool, true, false}
+use mathlib.Core.List.{List, [], _∷_, _++_}
+use native.Mathlib.Nat.{add-zero, add-suc, mod-lt, add-mul-mod-self-right, mod-eq-of-lt, mod-self, div-add-mod'}
+use native.Mathlib.Numerals.{add-one}
+use native.Mathlib.Omega.{arith}
+use borrow.Author.Tests.{eqb-true, eqb-false}
+use lib.Dec.{eqb}
+use lib.ListN.{length, getD, set, length-set}
+use lib.Seq.{getD-set-same, getD-set-other}
+use Rattle.sums.specs.declared.draws.Cursor.{Cursor}
+use Rattle.sums.specs.declared.draws.Draw.{Draw}
+use Rattle.sums.proofs.Tables.{getD-tab, up-length}
+use Rattle.sums.specs.Tables.{upTo}
+use Rattle.sums.specs.Cells.{Below}
+use Rattle.sums.specs.Draws.{drawn, exchange, exchangesFrom, cursorAt, Stepped, Picked}
+
+again : (n l : ℕ) → suc n % l ≡ suc (n % l) % l
+again n l =
+    let e : suc n ≡ suc (n % l) + n / l * l = omega (arith, div-add-mod' n l) in
+    ap (λ (x : ℕ). x % l) e ∙ add-mul-mod-self-right (suc (n % l)) (n / l) l
+
+pub ring-on : (n l : ℕ) → suc (n % l) < l → suc n % l ≡ suc (n % l)
+ring-on n l h = again n l ∙ mod-eq-of-lt h
+
+pub ring-round : (n l : ℕ) → suc (n % l) ≡ l → suc n % l ≡ 0
+ring-round n l h = again n l ∙ (ap (λ (x : ℕ). x % l) h ∙ mod-self l)
+
+pub below-up : (m : ℕ) → Below m (upTo m)
+below-up m i h = let l : i < m = rw (up-length m) at h in rw (getD-tab (λ n. n) m i 0 l) l
+
+pub below-set : (m : ℕ) (l : List ℕ) (i v : ℕ) → Below m l → v < m → Below m (set l i v)
+below-set m l i v b h k p = go (eqb k i) refl
+  where
+    q : k < length l
+    q = rw length-set at p
+
+    go : (t : Bool) → eqb k i ≡ t → getD (set l i v) k 0 < m
+    go true e = let s : k ≡ i = eqb-true k i e in rw s (let r : i < length l = omega (arith, q) in rw (getD-set-same l i v 0 r) h)
+    go false e = rw (getD-set-other l i k v 0 (eqb-false k i e)) (b k q)
+
+pub record Picking (draws : List ℕ) (c₀ : Cursor) (count m : ℕ) (places : List ℕ) (cursor : Cursor) (i : ℕ) : Type 0 where
+  pub within : i ≤ count
+  pub sized : length places ≡ m
+  pub inside : cursor .at < length draws
+  pub below : Below m places
+  pub steps : (n : ℕ) → c₀ ≡ cursorAt draws n → (exchangesFrom draws m (n + i) i (count - i) places ≡ exchangesFrom draws m n 0 count (upTo m)) × (cursor ≡ cursorAt draws (n + i))
+
+pub picking-start : (draws : List ℕ) (c₀ : Cursor) (count m : ℕ) → c₀ .at < length draws → Picking draws c₀ count m (upTo m) c₀ 0
+picking-start draws c₀ count m h = record {
+  within = omega arith;
+  sized = up-length m;
+  inside = h;
+  below = below-up m;
+  steps = λ n e. let z : count - 0 ≡ count = omega arith in rw (add-zero, z) (refl, e);
+}
+
+pub picking-begin : (draws : List ℕ) (c₀ : Cursor) (count l : ℕ) (places : List ℕ) → places ≡ upTo l → c₀ .at < length draws → Picking draws c₀ count (length places) places c₀ 0
+picking-begin draws c₀ count l places e h =
+    let n : length (upTo l) ≡ l = up-length l in
+    rw (e, n) (picking-start draws c₀ count l h)
+
+module _ {draws : List ℕ} {c₀ : Cursor} {count m : ℕ} {places : List ℕ} {cursor : Cursor} {i : ℕ} (h : Picking draws c₀ count m places cursor i) where
+  pub picking-end : count ≤ i → Picked draws c₀ count m cursor places
+  unfolding exchangesFrom
+  picking-end l =
+      let e : i ≡ count = omega (arith, h .within) in
+      let z : count - count ≡ 0 = omega arith in
+      record {
+        inside = h .inside;
+        below = h .below;
+        steps = λ n p. (rw (e, z) at (h .steps n p .0), rw e at (h .steps n p .1));
+      }
+
+  module _ (l : i < count) (fits : count ≤ m) (j x : ℕ) (e : j ≡ i + x % (m - i)) where
+    pub picking-room : j < m
+    picking-room = omega (arith, mod-lt x {m = m - i} (omega arith))
+
+    pub picking-step : (d : Draw) → x ≡ d .number → Stepped draws cursor d → Picking draws c₀ count m (exchange i j places) (d .next) (i + 1)
+    unfolding exchange exchangesFrom
+    picking-step d f s = record {
+      within = omega arith;
+      sized = simp length-set (h .sized);
+      inside = s .inside;
+      below = below-set m (set places i (getD places j 0)) j (getD places i 0) (below-set m places i (getD places j 0) (h .below) (h .below j (omega (arith, h .sized, picking-room)))) (h .below i (omega (arith, h .sized)));
+      steps = λ n p.
+          let w = s .steps (n + i) (h .steps n p .1) in
+          let z : count - i ≡ suc (count - suc i) = omega arith in
+          let g : j ≡ i + drawn draws (n + i) % (m - i) = e ∙ rw (f, w .0) in
+          (rw (add-one i, add-suc n i, g) (rw z at (h .steps n p .0)), rw (add-one i, add-suc n i) (w .1));
+    }

@@ -1,0 +1,19 @@
+use lib.Ieee.{div, ofBits}
+use Rattle.sums.proofs.NanBits.{nan-pattern, no-nan}
+use native.Mathlib.Omega.{arith}
+use borrow.Author.Needs.{needs}
+use Rattle.sums.proofs.bits.float_of.Statement.{statement}
+use Rattle.sums.proofs.bits.float_of.Tie as tie
+
+returns : tie.Need-returns
+unfolding div ofBits
+returns c = nan-pattern (c .before .args .bits) (c .if1 .taken)
+
+float-from-bits-result : tie.Need-float-from-bits-result
+float-from-bits-result c = no-nan (c .before .args .bits) (c .if1 .left)
+
+returns-2 : tie.Need-returns-2
+returns-2 c = search needs
+
+pub float-of-spec : {M : Type 1} → statement M
+float-of-spec = tie.close (tie.spec returns float-from-bits-result returns-2)

@@ -1,0 +1,13 @@
+// Floats out of their bits.
+ghost use mathlib.Core.Path.{_≡_};
+ghost use lib.Ieee.{binary32, ofBits};
+
+// The float of any pattern: `f32::from_bits` is not defined at a NaN's.
+pub fn float_of(bits: u32) -> f32
+    ensures { λ r. ⌜ r ≡ ofBits binary32 bits ⌝ }
+{
+    if 0x7f80_0000 < bits % 0x8000_0000 {
+        return 0.0f32 / 0.0f32;
+    }
+    f32::from_bits(bits)
+}

@@ -1,0 +1,72 @@
+// Draws from a lent list, in place of the source's generator (01, 'Draws').
+ghost use mathlib.Core.Path.{_≡_};
+ghost use Prim.Native.Nat.{_≤_, _<_};
+ghost use lib.ListN.{length};
+ghost use Rattle.sums.specs.Draws.{Stepped, Picked};
+use crate::cells;
+
+// The place in the draw list.
+pub struct Cursor {
+    pub at: usize,
+}
+
+pub struct Draw {
+    pub number: u32,
+    pub next: Cursor,
+}
+
+impl Cursor {
+    pub fn new() -> Self
+        ensures { λ r. ⌜ r .at ≡ 0 ⌝ }
+    {
+        Cursor { at: 0 }
+    }
+
+    // The next number and the next cursor; after the last number comes the first again.
+    pub fn draw(self, draws: &[u32]) -> Draw
+        requires { ⌜ self .at < length (now draws) ⌝ }
+        ensures { λ r. ⌜ Stepped (now (draws .entry)) self r ⌝ }
+    {
+        let at = self.at;
+        let number = draws[at];
+        let next = at + 1;
+        if next == draws.len() {
+            return Draw {
+                number,
+                next: Cursor { at: 0 },
+            };
+        }
+        Draw {
+            number,
+            next: Cursor { at: next },
+        }
+    }
+}
+
+fn wide(x: u32) -> usize
+    ensures { λ r. ⌜ r ≡ x ⌝ }
+{
+    x as usize
+}
+
+// Picks `count` of the numbers below the slice's length: they stand in front.
+pub fn pick(draws: &[u32], from: Cursor, places: &mut [u16], count: usize) -> Cursor
+    requires { ⌜ (from .at < length (now draws)) × ((count ≤ length (now places)) × (length (now places) ≤ 65536)) ⌝ }
+    ensures { λ r. ⌜ Picked (now (draws .entry)) from count (length (now (places .entry))) r (now (places .exit)) ⌝ }
+{
+    cells::count_up(places);
+    let m = places.len();
+    let mut cursor = from;
+    let mut i = 0usize;
+    while i < count {
+        let drawn = cursor.draw(draws);
+        let j = i + wide(drawn.number) % (m - i);
+        let a = places[i];
+        places[i] = places[j];
+        places[j] = a;
+        let next = drawn.next;
+        cursor = next;
+        i += 1;
+    }
+    cursor
+}

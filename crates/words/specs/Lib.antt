@@ -1,0 +1,2 @@
+-- Little-endian bytes as definitions.
+pub mod Bytes

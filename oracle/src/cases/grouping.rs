@@ -1,0 +1,263 @@
+//! Cases of grouping.
+
+use super::values::{Flavour, Source};
+use super::{
+    all_float_bits, draw_list, length_of, outside, size, usual_dim, wrong_draw_list, wrong_length,
+    Case, Spoils, STALE_CELL, STALE_FLOAT,
+};
+use crate::calls::{
+    grouping, GroupingAccepted, GroupingLent, GroupingNumbers, DIM, K, ROWS, SIZE_LIMIT,
+    SPLIT_BUDGET,
+};
+use crate::random::Random;
+use crate::refusal::Refusal;
+use crate::slips::Slip;
+
+/// Products that a stubborn group's splits may cost together.
+const COST: u32 = 2_000_000;
+
+const WEIGHTS: [f32; 16] = [
+    0.0,
+    0.0,
+    -0.0,
+    f32::NAN,
+    1e-9,
+    1e-3,
+    0.1,
+    0.25,
+    0.5,
+    0.5,
+    1.0,
+    3.0,
+    f32::MAX,
+    f32::INFINITY,
+    f32::NEG_INFINITY,
+    -1.0,
+];
+
+#[derive(Clone, Debug)]
+pub struct GroupingCase {
+    pub numbers: GroupingNumbers,
+    pub values: Vec<f32>,
+    pub draws: Vec<u32>,
+    pub work_fits: bool,
+    pub order_cells: usize,
+    pub end_cells: usize,
+    pub mean_cells: usize,
+}
+
+#[derive(Clone, Debug, PartialEq, Eq)]
+pub struct GroupingOutcome {
+    pub answer: Result<GroupingAccepted, Refusal>,
+    pub order: Vec<u16>,
+    pub ends: Vec<u16>,
+    pub means: Vec<u32>,
+}
+
+impl GroupingOutcome {
+    pub fn new(
+        answer: Result<GroupingAccepted, Refusal>,
+        order: Vec<u16>,
+        ends: Vec<u16>,
+        means: &[f32],
+    ) -> Self {
+        Self {
+            answer,
+            order,
+            ends,
+            means: all_float_bits(means),
+        }
+    }
+}
+
+/// Numbers in their ranges; the budget comes last since it decides what a case costs.
+pub(super) fn usual_numbers(random: &mut Random) -> GroupingNumbers {
+    let rows = size(random, 0, 60, 1_200, 60);
+    // Many rows are there for the sampling of training rows, which few centroids bring about.
+    let (dim, branching) = match rows {
+        0..=60 => (usual_dim(random), usual_branching(random, rows)),
+        _ => (random.between(1, 3), random.choose(&[1, 2, 2, 3])),
+    };
+    let size_limit = {
+        let few = random.small(0, 8);
+        let any = random.between(rows.min(branching), rows.max(branching));
+        random.choose(&[few, rows / 2, rows.saturating_sub(1), any, any, any])
+    };
+    let weight = {
+        let near = near_whole(random, rows / branching);
+        let listed = random.choose(&WEIGHTS);
+        random.choose(&[listed, listed, near])
+    };
+    let budget = random.choose(&[0, 1, 2, 3, 5, 10, 30, 30, 30, 30, 30, 30]);
+    GroupingNumbers {
+        rows,
+        dim,
+        size_limit,
+        branching,
+        weight,
+        budget: budget.min(affordable_splits(rows, dim, branching)),
+    }
+}
+
+fn usual_branching(random: &mut Random, rows: u32) -> u32 {
+    let near = (rows + random.below(2)).clamp(1, K.high);
+    let any = random.between(1, K.high);
+    random.choose(&[1, 2, 2, 2, 2, 2, 3, 3, 3, 4, 4, 5, 8, near, any])
+}
+
+/// A weight for which the allowance of the first split is a whole number, or nearly.
+fn near_whole(random: &mut Random, share: u32) -> f32 {
+    let share = share.max(1);
+    let ratio = random.between(1, share) as f32 / share as f32;
+    f32::from_bits(ratio.to_bits() + random.below(3) - 1)
+}
+
+fn affordable_splits(rows: u32, dim: u32, branching: u32) -> u32 {
+    let training = rows.min(256 * branching);
+    let one = 100 * training * dim * branching;
+    (COST / one.max(1)).clamp(1, SPLIT_BUDGET.high)
+}
+
+fn spoil_a_number(random: &mut Random, numbers: &mut GroupingNumbers) {
+    match random.below(5) {
+        0 => numbers.rows = outside(random, ROWS),
+        1 => numbers.dim = outside(random, DIM),
+        2 => numbers.size_limit = outside(random, SIZE_LIMIT),
+        3 => numbers.branching = outside(random, K),
+        _ => numbers.budget = outside(random, SPLIT_BUDGET),
+    }
+}
+
+impl GroupingCase {
+    pub(super) fn of(random: &mut Random, mut numbers: GroupingNumbers) -> Self {
+        let source = Source::new(random, numbers.dim);
+        // Splits of such rows come to an end by themselves, so the largest budget is affordable.
+        let splits_well = matches!(source.flavour, Flavour::Plain | Flavour::Clustered);
+        if splits_well && numbers.branching > 1 && numbers.rows <= 60 && numbers.budget == 30 {
+            numbers.budget = SPLIT_BUDGET.high;
+        }
+        let values = source.values(random, length_of(numbers.rows, numbers.dim));
+        Self::given(numbers, values, draw_list(random))
+    }
+
+    fn given(numbers: GroupingNumbers, values: Vec<f32>, draws: Vec<u32>) -> Self {
+        Self {
+            numbers,
+            work_fits: true,
+            order_cells: length_of(numbers.rows, 1),
+            end_cells: length_of(numbers.rows, 1),
+            mean_cells: values.len(),
+            values,
+            draws,
+        }
+    }
+
+    fn spoil_a_length(&mut self, random: &mut Random) {
+        match random.below(5) {
+            0 => {
+                let length = wrong_length(random, self.values.len());
+                self.values.resize(length, 1.0);
+            }
+            1 => self.order_cells = wrong_length(random, self.order_cells),
+            2 => self.end_cells = wrong_length(random, self.end_cells),
+            3 => self.mean_cells = wrong_length(random, self.mean_cells),
+            _ => self.work_fits = false,
+        }
+    }
+
+    /// Rows of one value, and draws of zero.
+    pub fn simple(
+        values: &[f32],
+        size_limit: u32,
+        branching: u32,
+        weight: f32,
+        budget: u32,
+    ) -> Self {
+        let numbers = GroupingNumbers {
+            rows: values.len() as u32,
+            dim: 1,
+            size_limit,
+            branching,
+            weight,
+            budget,
+        };
+        Self::given(numbers, values.to_vec(), vec![0])
+    }
+}
+
+impl Case for GroupingCase {
+    type Outcome = GroupingOutcome;
+    const NAME: &'static str = "grouping";
+
+    fn generate(seed: u64, index: u64) -> Self {
+        let random = &mut Random::new(seed, 3, index);
+        let spoils = Spoils::new(random);
+        let mut numbers = usual_numbers(random);
+        if spoils.once_in(random, 12) {
+            spoil_a_number(random, &mut numbers);
+        }
+        let mut case = Self::of(random, numbers);
+        if spoils.once_in(random, 12) {
+            case.spoil_a_length(random);
+        }
+        if spoils.once_in(random, 16) {
+            case.draws = wrong_draw_list(random);
+        }
+        case
+    }
+
+    fn built() -> Vec<Self> {
+        let mut cases = vec![
+            // P1, P2 with and without balancing, P11, P12 and its neighbour.
+            Self::simple(&[0.0, 1.0, 10.0, 11.0], 2, 2, 0.0, 4),
+            Self::simple(&[3.0; 5], 4, 2, 0.0, 3),
+            Self::simple(&[3.0; 5], 4, 2, 0.5, 3),
+            Self::simple(&[0.0, 1.0, 2.0], 2, 4, 0.0, 0),
+            Self::simple(&[0.0, 1.0, 2.0], 2, 2, 0.0, 0),
+            Self::simple(&[0.0, 1.0], 2, 2, 0.0, 0),
+            // No rows; a mean of 5/3; a batch whose 100 iterations differ from one and two.
+            Self::simple(&[], 2, 2, 0.0, 0),
+            Self::simple(&[1.0, 2.0, 2.0], 3, 2, 0.0, 0),
+            Self::simple(&[0.0, 1.0, 2.0, 3.0, 7.0], 4, 2, 0.0, 1),
+            // The largest budget, used up by rows that never part.
+            Self::simple(&[3.0; 2], 1, 2, 0.0, SPLIT_BUDGET.high),
+        ];
+        // The second split goes on with the third draw.
+        let mut later = Self::simple(&[0.0, 10.0, 11.0], 1, 2, 0.0, 2);
+        later.draws = vec![0, 0, 1, 0];
+        cases.push(later);
+        // More rows than train, with and without balancing.
+        let many: Vec<f32> = (0..ROWS.high).map(|i| (i * i % 4_099) as f32).collect();
+        for weight in [0.0, 0.1] {
+            let mut sampled = Self::simple(&many, 1_000, 3, weight, 20);
+            sampled.draws = (0..1_000u32)
+                .map(|i| i.wrapping_mul(2_654_435_761))
+                .collect();
+            cases.push(sampled);
+        }
+        cases
+    }
+
+    fn run(&self, slip: Slip) -> GroupingOutcome {
+        let mut order = vec![STALE_CELL; self.order_cells];
+        let mut ends = vec![STALE_CELL; self.end_cells];
+        let mut means = vec![STALE_FLOAT; self.mean_cells];
+        let answer = grouping(
+            &self.numbers,
+            &self.values,
+            &self.draws,
+            self.work_fits,
+            GroupingLent {
+                order: &mut order,
+                ends: &mut ends,
+                means: &mut means,
+            },
+            slip,
+        );
+        GroupingOutcome::new(answer, order, ends, &means)
+    }
+
+    fn number(outcome: &GroupingOutcome) -> u32 {
+        outcome.answer.err().map_or(0, Refusal::number)
+    }
+}

@@ -1,0 +1,235 @@
+//! Cases of k-means.
+
+use super::values::{power_of_two, Source};
+use super::{
+    all_float_bits, double_bits, draw_list, length_of, outside, size, usual_dim, wrong_draw_list,
+    wrong_length, Case, Spoils, STALE_CELL, STALE_FLOAT,
+};
+use crate::calls::{
+    kmeans, KMeansAccepted, KMeansLent, KMeansNumbers, BLOCK, DIM, ITERATIONS, K, KMEANS_ROWS,
+    POINTS_PER_CENTROID, RESTARTS,
+};
+use crate::random::Random;
+use crate::refusal::Refusal;
+use crate::slips::Slip;
+
+/// Products a case may cost, so that tens of thousands of cases take seconds.
+const COST: u32 = 1_000_000;
+
+#[derive(Clone, Debug)]
+pub struct KMeansCase {
+    pub numbers: KMeansNumbers,
+    pub values: Vec<f32>,
+    pub draws: Vec<u32>,
+    pub work_fits: bool,
+    pub label_cells: usize,
+    pub centroid_cells: usize,
+}
+
+#[derive(Clone, Debug, PartialEq, Eq)]
+pub struct KMeansOutcome {
+    /// The objective's bits and the restart, or the refusal.
+    pub answer: Result<(u64, u32), Refusal>,
+    pub labels: Vec<u16>,
+    pub centroids: Vec<u32>,
+}
+
+impl KMeansOutcome {
+    pub fn new(
+        answer: Result<KMeansAccepted, Refusal>,
+        labels: Vec<u16>,
+        centroids: &[f32],
+    ) -> Self {
+        Self {
+            answer: answer.map(|found| (double_bits(found.objective), found.restart)),
+            labels,
+            centroids: all_float_bits(centroids),
+        }
+    }
+}
+
+/// Numbers in their ranges, near the places where behaviour changes.
+fn usual_numbers(random: &mut Random) -> KMeansNumbers {
+    let rows = size(random, 1, 60, KMEANS_ROWS.high, 200);
+    let dim = usual_dim(random);
+    let most = rows.min(K.high);
+    let few = random.small(1, most);
+    let k = random.choose(&[1, few, few, few, most]);
+    let restarts = {
+        let any = random.between(1, RESTARTS.high);
+        random.choose(&[1, 1, 1, 2, 3, any, RESTARTS.high])
+    };
+    let iterations = {
+        let any = random.between(1, ITERATIONS.high);
+        random.choose(&[1, 1, 2, 3, 5, any, 25, ITERATIONS.high])
+    };
+    let points_per_centroid = {
+        let any = random.small(0, 20);
+        random.choose(&[0, 1, 2, 3, any, 256, 256, POINTS_PER_CENTROID.high])
+    };
+    let block = {
+        let any = random.between(1, BLOCK.high);
+        let near = random.choose(&[rows.saturating_sub(1).max(1), rows, rows + 1]);
+        random.choose(&[1, 2, 5, 8, 9, near, near, any, BLOCK.high])
+    };
+    let affordable = COST / (rows * k * dim * restarts).max(1);
+    KMeansNumbers {
+        rows,
+        dim,
+        k,
+        iterations: iterations.min(affordable.max(1)),
+        restarts,
+        points_per_centroid,
+        block,
+    }
+}
+
+fn spoil_a_number(random: &mut Random, numbers: &mut KMeansNumbers) {
+    match random.below(10) {
+        0 => numbers.rows = outside(random, KMEANS_ROWS),
+        1 => numbers.dim = outside(random, DIM),
+        2 => numbers.k = outside(random, K),
+        3 => numbers.iterations = outside(random, ITERATIONS),
+        4 => numbers.restarts = outside(random, RESTARTS),
+        5 => numbers.points_per_centroid = outside(random, POINTS_PER_CENTROID),
+        6 => numbers.block = outside(random, BLOCK),
+        // Refusal 3 where k is still in its range.
+        _ => numbers.k = numbers.rows + 1,
+    }
+}
+
+impl KMeansCase {
+    fn of(random: &mut Random, numbers: KMeansNumbers) -> Self {
+        let source = Source::new(random, numbers.dim);
+        let values = source.values(random, length_of(numbers.rows, numbers.dim));
+        Self::given(numbers, values, draw_list(random))
+    }
+
+    fn given(numbers: KMeansNumbers, values: Vec<f32>, draws: Vec<u32>) -> Self {
+        Self {
+            numbers,
+            values,
+            draws,
+            work_fits: true,
+            label_cells: length_of(numbers.rows, 1),
+            centroid_cells: length_of(numbers.k, numbers.dim),
+        }
+    }
+
+    fn spoil_a_length(&mut self, random: &mut Random) {
+        match random.below(4) {
+            0 => {
+                let length = wrong_length(random, self.values.len());
+                self.values.resize(length, 1.0);
+            }
+            1 => self.label_cells = wrong_length(random, self.label_cells),
+            2 => self.centroid_cells = wrong_length(random, self.centroid_cells),
+            _ => self.work_fits = false,
+        }
+    }
+
+    /// Two restarts of which one has a NaN objective and the other an infinite one, the NaN
+    /// first or last. Rows whose norm overflows are unplaced and always in cluster 0, whose sum
+    /// overflows exactly if 2^60 is in it too: that turns a tie at 2^107 and with it the last
+    /// addition. The infinite row does not train; it minus an infinite centroid is NaN.
+    pub fn nan_objective(nan_first: bool) -> Self {
+        let values = vec![
+            power_of_two(60),
+            0.0,
+            0.0,
+            power_of_two(83),
+            power_of_two(107),
+            -power_of_two(107),
+            power_of_two(103) - power_of_two(84),
+            f32::MAX,
+            f32::INFINITY,
+        ];
+        let numbers = KMeansNumbers {
+            rows: 9,
+            dim: 1,
+            k: 2,
+            iterations: 1,
+            restarts: 2,
+            points_per_centroid: 4,
+            block: 32_768,
+        };
+        // Eight draws pick the first eight rows, two a restart's centroids.
+        let mut draws = vec![0; 8];
+        draws.extend(match nan_first {
+            true => [0, 0, 1, 0],
+            false => [1, 0, 0, 0],
+        });
+        Self::given(numbers, values, draws)
+    }
+
+    /// Rows of one value, one restart, the default sampling, and draws of zero.
+    fn simple(values: &[f32], k: u32, iterations: u32, block: u32) -> Self {
+        let numbers = KMeansNumbers {
+            rows: values.len() as u32,
+            dim: 1,
+            k,
+            iterations,
+            restarts: 1,
+            points_per_centroid: 256,
+            block,
+        };
+        Self::given(numbers, values.to_vec(), vec![0])
+    }
+}
+
+impl Case for KMeansCase {
+    type Outcome = KMeansOutcome;
+    const NAME: &'static str = "k-means";
+
+    fn generate(seed: u64, index: u64) -> Self {
+        let random = &mut Random::new(seed, 2, index);
+        let spoils = Spoils::new(random);
+        let mut numbers = usual_numbers(random);
+        if spoils.once_in(random, 8) {
+            spoil_a_number(random, &mut numbers);
+        }
+        let mut case = Self::of(random, numbers);
+        if spoils.once_in(random, 12) {
+            case.spoil_a_length(random);
+        }
+        if spoils.once_in(random, 16) {
+            case.draws = wrong_draw_list(random);
+        }
+        case
+    }
+
+    fn built() -> Vec<Self> {
+        vec![
+            Self::nan_objective(true),
+            Self::nan_objective(false),
+            // P10, and the ten equal rows of "Run" with one block and with two.
+            Self::simple(&[0.0, 1.0], 1, 25, 32_768),
+            Self::simple(&[1.0; 10], 10, 25, 32_768),
+            Self::simple(&[1.0; 10], 10, 25, 5),
+            // 1 minus 2^29 is -2^29 in f32, and twice 4097 squared needs f64.
+            Self::simple(&[1.0, 1_073_741_824.0], 1, 25, 32_768),
+            Self::simple(&[0.0, 8_194.0], 1, 25, 32_768),
+        ]
+    }
+
+    fn run(&self, slip: Slip) -> KMeansOutcome {
+        let mut labels = vec![STALE_CELL; self.label_cells];
+        let mut centroids = vec![STALE_FLOAT; self.centroid_cells];
+        let answer = kmeans(
+            &self.numbers,
+            &self.values,
+            &self.draws,
+            self.work_fits,
+            KMeansLent {
+                labels: &mut labels,
+                centroids: &mut centroids,
+            },
+            slip,
+        );
+        KMeansOutcome::new(answer, labels, &centroids)
+    }
+
+    fn number(outcome: &KMeansOutcome) -> u32 {
+        outcome.answer.err().map_or(0, Refusal::number)
+    }
+}

@@ -1,0 +1,218 @@
+//! What holds of every generated case, and that the cases meet what they are there for.
+
+use std::collections::BTreeMap;
+
+use oracle::calls::{label_bytes, BLANK_CELL};
+use oracle::cases::{
+    BatchCase, Case, ClosureBytesCase, ClosureCase, GroupingCase, GroupingOutcome, KMeansCase,
+    LabelBytesCase, LabelCase,
+};
+use oracle::slips::Slip;
+
+const SEED: u64 = 7;
+const CASES: u64 = 2_500;
+
+/// The generated cases and then the built ones.
+fn all<C: Case>() -> impl Iterator<Item = C> {
+    (0..CASES)
+        .map(|index| C::generate(SEED, index))
+        .chain(C::built())
+}
+
+/// Runs all cases and asks that each of the numbers, 0 for an acceptance, is met and no other.
+fn assert_met<C: Case>(numbers: &[u32]) {
+    let mut met: BTreeMap<u32, usize> = BTreeMap::new();
+    for case in all::<C>() {
+        *met.entry(C::number(&case.run(Slip::None))).or_default() += 1;
+    }
+    println!("{}: {met:?}", C::NAME);
+    assert_eq!(met.keys().copied().collect::<Vec<_>>(), numbers);
+    assert!(met[&0] as u64 > CASES / 3, "{} hardly accepts", C::NAME);
+}
+
+#[test]
+fn every_refusal_is_met() {
+    assert_met::<LabelCase>(&[0, 1, 2]);
+    assert_met::<KMeansCase>(&[0, 1, 2, 3, 4]);
+    assert_met::<ClosureCase>(&[0, 1, 2, 5]);
+    assert_met::<LabelBytesCase>(&[0, 1, 2]);
+    assert_met::<ClosureBytesCase>(&[0, 1, 2, 5]);
+}
+
+#[test]
+fn every_refusal_of_grouping_is_met() {
+    assert_met::<GroupingCase>(&[0, 1, 2, 4, 6, 7]);
+}
+
+#[test]
+fn every_refusal_of_the_program_is_met() {
+    assert_met::<BatchCase>(&[0, 1, 4, 6, 7, 8]);
+}
+
+fn assert_repeatable<C: Case>() {
+    for index in 0..60 {
+        let (once, again) = (C::generate(SEED, index), C::generate(SEED, index));
+        assert_eq!(format!("{once:?}"), format!("{again:?}"));
+        assert_eq!(once.run(Slip::None), again.run(Slip::None));
+    }
+}
+
+#[test]
+fn a_seed_and_an_index_name_a_case() {
+    assert_repeatable::<LabelCase>();
+    assert_repeatable::<KMeansCase>();
+    assert_repeatable::<GroupingCase>();
+    assert_repeatable::<ClosureCase>();
+    assert_repeatable::<LabelBytesCase>();
+    assert_repeatable::<ClosureBytesCase>();
+    assert_repeatable::<BatchCase>();
+}
+
+fn blank(cells: &[u16]) -> bool {
+    cells.iter().all(|&cell| cell == BLANK_CELL)
+}
+
+fn zero(floats: &[u32]) -> bool {
+    floats.iter().all(|&bits| bits == 0)
+}
+
+#[test]
+fn a_refusal_leaves_only_blanks() {
+    for case in all::<LabelCase>() {
+        let outcome = case.run(Slip::None);
+        assert!(outcome.answer.is_ok() || blank(&outcome.labels));
+    }
+    for case in all::<KMeansCase>() {
+        let outcome = case.run(Slip::None);
+        let blanks = blank(&outcome.labels) && zero(&outcome.centroids);
+        assert!(outcome.answer.is_ok() || blanks);
+    }
+    for case in all::<ClosureCase>() {
+        let outcome = case.run(Slip::None);
+        assert!(outcome.answer.is_ok() || blank(&outcome.cells));
+    }
+    for case in all::<LabelBytesCase>() {
+        let outcome = case.run(Slip::None);
+        assert!(outcome.number == 0 || outcome.result.iter().all(|&byte| byte == 255));
+    }
+    for case in all::<ClosureBytesCase>() {
+        let outcome = case.run(Slip::None);
+        assert!(outcome.number == 0 || outcome.result.iter().all(|&byte| byte == 255));
+    }
+}
+
+/// Each row once, each group of 1 to limit rows, and blanks where there are no more groups.
+fn assert_partition(case: &GroupingCase, outcome: &GroupingOutcome, groups: usize) {
+    let (ends, unused) = outcome.ends.split_at(groups);
+    let mut start = 0;
+    for &end in ends {
+        assert!(start < end && u32::from(end - start) <= case.numbers.size_limit);
+        start = end;
+    }
+    assert_eq!(u32::from(start), case.numbers.rows);
+    assert!(blank(unused));
+    assert!(zero(&outcome.means[groups * case.numbers.dim as usize..]));
+    let mut rows = outcome.order.clone();
+    rows.sort_unstable();
+    assert!(rows.iter().zip(0..).all(|(&row, at)| row == at));
+}
+
+#[test]
+fn an_accepted_grouping_holds_each_row_once() {
+    for case in all::<GroupingCase>() {
+        let outcome = case.run(Slip::None);
+        if let Ok(accepted) = outcome.answer {
+            assert_partition(&case, &outcome, accepted.groups as usize);
+            assert!(accepted.splits <= case.numbers.budget);
+        } else {
+            assert!(blank(&outcome.order) && blank(&outcome.ends) && zero(&outcome.means));
+        }
+    }
+}
+
+#[test]
+fn a_label_depends_on_its_own_row() {
+    let bytes =
+        |values: &[f32]| -> Vec<u8> { values.iter().flat_map(|v| v.to_le_bytes()).collect() };
+    for case in all::<LabelCase>() {
+        let outcome = case.run(Slip::None);
+        if outcome.answer.is_err() || case.rows > 60 {
+            continue;
+        }
+        let centroids = bytes(&case.centroids);
+        for (row, label) in case.values.chunks(case.dim as usize).zip(&outcome.labels) {
+            let mut result = [0; 2];
+            let answer = label_bytes(case.dim, case.k, &bytes(row), &centroids, &mut result);
+            assert_eq!((answer, u16::from_le_bytes(result)), (0, *label));
+        }
+    }
+}
+
+#[test]
+fn kmeans_labels_are_labels_of_its_centroids() {
+    for case in all::<KMeansCase>() {
+        let outcome = case.run(Slip::None);
+        if outcome.answer.is_err() {
+            continue;
+        }
+        let labelling = LabelCase {
+            rows: case.numbers.rows,
+            dim: case.numbers.dim,
+            k: case.numbers.k,
+            values: case.values.clone(),
+            centroids: outcome
+                .centroids
+                .iter()
+                .copied()
+                .map(f32::from_bits)
+                .collect(),
+            label_cells: case.label_cells,
+        };
+        assert_eq!(labelling.run(Slip::None).labels, outcome.labels);
+    }
+}
+
+fn objective_of(case: &KMeansCase) -> (f64, u32) {
+    let (bits, restart) = case.run(Slip::None).answer.unwrap();
+    (f64::from_bits(bits), restart)
+}
+
+#[test]
+fn a_nan_first_objective_is_never_beaten() {
+    let case = KMeansCase::nan_objective(true);
+    let (objective, restart) = objective_of(&case);
+    assert!(objective.is_nan());
+    assert_eq!(restart, 0);
+
+    // The second restart alone: an infinite objective and other results, so the choice shows.
+    let mut second = case.clone();
+    second.numbers.restarts = 1;
+    second.draws.drain(8..10);
+    assert_eq!(objective_of(&second), (f64::INFINITY, 0));
+    let (kept, other) = (case.run(Slip::None), second.run(Slip::None));
+    assert_ne!(kept.centroids, other.centroids);
+}
+
+#[test]
+fn a_later_nan_objective_beats_nothing() {
+    let case = KMeansCase::nan_objective(false);
+    assert_eq!(objective_of(&case), (f64::INFINITY, 0));
+    let mut second = case.clone();
+    second.numbers.restarts = 1;
+    second.draws.drain(8..10);
+    assert!(objective_of(&second).0.is_nan());
+}
+
+#[test]
+fn later_restarts_are_kept_and_ties_keep_the_first() {
+    let mut later = 0;
+    for case in all::<KMeansCase>() {
+        if let Ok((_, restart)) = case.run(Slip::None).answer {
+            later += u32::from(restart > 0);
+        }
+    }
+    assert!(later > 0);
+    let mut equal = KMeansCase::built()[3].clone();
+    equal.numbers.restarts = 16;
+    assert_eq!(objective_of(&equal), (0.0, 0));
+}
