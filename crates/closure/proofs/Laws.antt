@@ -1,0 +1,159 @@
+-- Laws of closure's definitions, one for each turn and end of the code's loops. Assumes nothing.
+use Prim.Native.Nat.{ℕ, zero, suc, _+_, _-_, _*_, _≤_, _<_}
+use mathlib.Core.Path.{_≡_, refl, sym, ap, _∙_}
+use mathlib.Core.Bool.{true, false, not, _&&_}
+use mathlib.Core.List.{List, [], _∷_, _++_, map, map-append, append-nil}
+use native.Mathlib.Nat.{not-suc-le-zero}
+use native.Mathlib.Numerals.{add-one}
+use native.Mathlib.Omega.{arith}
+use borrow.Author.Tests.{eq-eqb, eqb-true, leb-true}
+use lib.Dec.{eqb, leb}
+use lib.ListN.{length, getD, take, drop, set, replicate, length-append, length-map, drop-of-length-le}
+use lib.Seq.{drop-cons, take-suc}
+use lib.Ieee.{Float, nan, inf, fin, up, down, eq, ne, isNan}
+use Rattle.sums.specs.Rows.{Row, rowsFrom, rowAt}
+use Rattle.sums.specs.Sums.{apartOf}
+use Rattle.sums.specs.Ordering.{Candidate, candidate, numbered, order, orderFrom, keep}
+use Rattle.sums.specs.Refusals.{padded, accepted, refused, onAccepted, cellsOf, within, lowestFrom, unless, blankCell}
+use Rattle.sums.specs.Tables.{tabulate}
+use Rattle.sums.proofs.Rows.{map-rows, rows-length}
+use Rattle.closure.specs.declared.Reach.{Reach}
+use Rattle.closure.specs.declared.ClosureAnswer.the-variants.{Listed, Refused}
+use Rattle.closure.specs.Closure.{nearer, inReach, anyNan, distances, closure, listed, unordered, reachOf}
+use Rattle.closure.specs.Call.{answered, refuseNan, closureRefusal, closureCall, Gives}
+use Rattle.closure.specs.Inside.{chosen}
+use Rattle.closure.proofs.Lists.{take-map, take-least, keep-append, keep-le, padded-none, padded-more, both, passed}
+
+-- ---- a NaN is what differs from itself
+level-self : (m : ℕ) → (eqb m m && true) ≡ true
+level-self m = rw (eq-eqb m m refl)
+
+ne-self : (x : Float) → ne x x ≡ isNan x
+unfolding ne eq isNan
+ne-self nan = refl
+ne-self (inf true) = refl
+ne-self (inf false) = refl
+ne-self (fin true m e) = ap not (level-self (m * up e * down e))
+ne-self (fin false m e) = ap not (level-self (m * up e * down e))
+
+pub nan-here : (ds : List Float) (i : ℕ) → i < length ds → ne (getD ds i nan) (getD ds i nan) ≡ true → anyNan (drop i ds) ≡ true
+unfolding anyNan
+nan-here ds i h e = rw (drop-cons ds i nan h, sym (ne-self (getD ds i nan)) ∙ e)
+
+pub nan-on : (ds : List Float) (i : ℕ) → i < length ds → ne (getD ds i nan) (getD ds i nan) ≡ false → anyNan (drop i ds) ≡ anyNan (drop (i + 1) ds)
+unfolding anyNan
+nan-on ds i h e = rw (drop-cons ds i nan h, sym (ne-self (getD ds i nan)) ∙ e, add-one i)
+
+pub nan-end : (ds : List Float) (i : ℕ) → length ds ≤ i → anyNan (drop i ds) ≡ false
+unfolding anyNan
+nan-end ds i h = rw (drop-of-length-le ds {i = i} h)
+
+-- ---- the distances, by index
+pub distances-tab : (row : Row) (n : ℕ) (centroids : List Float)
+    → distances row (rowsFrom (length row) n centroids) ≡ tabulate (λ i. apartOf row (rowAt centroids (length row) i)) n
+distances-tab row n centroids = map-rows (apartOf row) (length row) n centroids
+
+pub distances-length : (row : Row) (dim n : ℕ) (values : List Float) → length (distances row (rowsFrom dim n values)) ≡ n
+distances-length row dim n values = length-map (rowsFrom dim n values) (apartOf row) ∙ rows-length dim n values
+
+-- ---- the choice
+pub chosen-more : (reach : Reach) (ds : List Float) (at : List ℕ) (j : ℕ) → j < length at
+    → chosen reach ds (take (j + 1) at) ≡ chosen reach ds (take j at) ++ map (λ c. c .position) (keep (inReach reach) (candidate ds (getD at j 0) ∷ []))
+unfolding chosen
+chosen-more reach ds at j h =
+    rw (add-one j, take-suc at j 0 h, map-append (candidate ds) (take j at) (getD at j 0 ∷ []), keep-append (inReach reach) (map (candidate ds) (take j at)) (candidate ds (getD at j 0) ∷ []))
+    (map-append (λ (c : Candidate). c .position) (keep (inReach reach) (map (candidate ds) (take j at))) (keep (inReach reach) (candidate ds (getD at j 0) ∷ [])))
+
+pub chosen-le : (reach : Reach) (ds : List Float) (at : List ℕ) → length (chosen reach ds at) ≤ length at
+unfolding chosen
+chosen-le reach ds at =
+    rw (length-map (keep (inReach reach) (map (candidate ds) at)) (λ (c : Candidate). c .position)) (omega (arith, keep-le (inReach reach) (map (candidate ds) at), length-map at (candidate ds)))
+
+-- with n chosen of the first j
+pub record Turn (reach : Reach) (ds : List Float) (at : List ℕ) (size j n : ℕ) (cells : List ℕ) : Type 0 where
+  pub number : n ≡ length (chosen reach ds (take j at))
+  pub listing : cells ≡ padded blankCell size (chosen reach ds (take j at))
+
+module _ (reach : Reach) (ds : List Float) (at : List ℕ) (size j n : ℕ) (cells : List ℕ) (t : Turn reach ds at size j n cells) (h : j < length at) where
+  pub listed-in : n < size → inReach reach (candidate ds (getD at j 0)) ≡ true → Turn reach ds at size (j + 1) (n + 1) (set cells n (getD at j 0))
+  unfolding keep
+  listed-in s e =
+      let more : chosen reach ds (take (j + 1) at) ≡ chosen reach ds (take j at) ++ (getD at j 0 ∷ []) = rw e at (chosen-more reach ds at j h) in
+      let k : length (chosen reach ds (take j at)) < size = omega (arith, t .number) in
+      record {
+        number = rw (more, length-append) (omega (arith, t .number));
+        listing = rw (more, t .listing, t .number) (padded-more blankCell size (chosen reach ds (take j at)) (getD at j 0) k);
+      }
+
+  pub passed-by : inReach reach (candidate ds (getD at j 0)) ≡ false → Turn reach ds at size (j + 1) n cells
+  unfolding keep
+  passed-by e =
+      let more : chosen reach ds (take (j + 1) at) ≡ chosen reach ds (take j at) = (rw e at (chosen-more reach ds at j h)) ∙ append-nil (chosen reach ds (take j at)) in
+      record { number = rw more (t .number); listing = rw more (t .listing) }
+
+-- ---- the whole
+closes : (ds : List Float) (at : List ℕ) (epsilon : Float) (replicas : ℕ) → 0 < length at → map (candidate ds) at ≡ order nearer (numbered ds)
+    → chosen (reachOf epsilon (getD ds (getD at 0 0) nan)) ds (take replicas at) ≡ map (λ c. c .position) (listed epsilon replicas (order nearer (numbered ds)))
+unfolding chosen listed
+closes ds [] epsilon replicas h e = absurd (not-suc-le-zero h)
+closes ds (x ∷ at) epsilon replicas h e = rw (← e, take-map (candidate ds) replicas (x ∷ at))
+
+pub is-closure : (row : Row) (centroids : List Row) (epsilon : Float) (replicas : ℕ) (ds : List Float) (at : List ℕ) (reach : Reach) (most x : ℕ)
+    → ds ≡ distances row centroids → x ≡ getD at 0 0 → reach ≡ reachOf epsilon (getD ds x nan) → most ≡ replicas - (replicas - length at) → 0 < length at
+    → map (candidate ds) at ≡ order nearer (numbered ds) → chosen reach ds (take most at) ≡ closure epsilon replicas row centroids
+unfolding closure
+is-closure row centroids epsilon replicas ds at reach most x d w r m s o = rw (← d, r, w, m, take-least replicas at) (closes ds at epsilon replicas s o)
+
+module _ (epsilon : Float) (replicas : ℕ) (row : Row) (centroids : List Row) where
+  pub answered-nan : unordered (distances row centroids) ≡ true → answered epsilon replicas row centroids ≡ refused 5
+  unfolding answered refuseNan
+  answered-nan e = rw e
+
+  pub answered-list : unordered (distances row centroids) ≡ false → answered epsilon replicas row centroids ≡ accepted (closure epsilon replicas row centroids)
+  unfolding answered refuseNan
+  answered-list e = rw e
+
+-- no centroids: no index
+pub answered-none : (epsilon : Float) (replicas dim : ℕ) (row values : List Float) → answered epsilon replicas row (rowsFrom dim 0 values) ≡ accepted []
+unfolding answered refuseNan unordered closure listed orderFrom rowsFrom
+answered-none epsilon replicas dim row values = refl
+
+-- ---- what is given back
+pub gives-refused : (number n : ℕ) (cells : List ℕ) → cells ≡ replicate n blankCell → Gives (refused number) n (Refused number) cells
+unfolding onAccepted cellsOf
+gives-refused number n cells e = record { result = refl; listing = e ∙ sym (padded-none blankCell n) }
+
+pub gives-list : (indices found : List ℕ) (n r : ℕ) (cells : List ℕ) → found ≡ indices → r ≡ length found → cells ≡ padded blankCell n found
+    → Gives (accepted indices) n (Listed r) cells
+unfolding onAccepted cellsOf
+gives-list indices found n r cells e p q = record { result = ap accepted (p ∙ ap length e); listing = q ∙ ap (padded blankCell n) e }
+
+-- ---- refusals 1 and 2
+pub record Fitting (dim count row centroids cells : ℕ) : Type 0 where
+  pub few : count ≤ 64
+  pub row-is : row ≡ dim
+  pub rows-are : centroids ≡ count * dim
+  pub cells-are : cells ≡ count
+
+pub fitting : (dim count row centroids cells : ℕ) → closureRefusal dim count row centroids cells ≡ 0 → Fitting dim count row centroids cells
+unfolding closureRefusal lowestFrom
+fitting dim count row centroids cells e =
+    let one = passed (within 1 64 dim && within 0 64 count) 0 _ e in
+    let two = both _ _ (passed (eqb row dim && eqb centroids (count * dim) && eqb cells count) 1 0 (one .1) .0) in
+    let more = both _ _ (two .0) in
+    record {
+      few = leb-true count 64 (both (leb 0 count) (leb count 64) (both (within 1 64 dim) (within 0 64 count) (one .0) .1) .1);
+      row-is = eqb-true row dim (more .0);
+      rows-are = eqb-true centroids (count * dim) (more .1);
+      cells-are = eqb-true cells count (two .1);
+    }
+
+module _ (epsilon : Float) (replicas dim count : ℕ) (row centroids : List Float) (cells : ℕ) where
+  pub call-refused : (n : ℕ) → n ≡ closureRefusal dim count (length row) (length centroids) cells → (n ≡ 0 → ⊥) → closureCall epsilon replicas dim count row centroids cells ≡ refused n
+  unfolding closureCall unless
+  call-refused zero e h = absurd (h refl)
+  call-refused (suc n) e h = rw (← e)
+
+  pub call-on : closureRefusal dim count (length row) (length centroids) cells ≡ 0 → closureCall epsilon replicas dim count row centroids cells ≡ answered epsilon replicas row (rowsFrom dim count centroids)
+  unfolding closureCall unless
+  call-on e = rw e

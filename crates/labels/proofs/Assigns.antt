@@ -1,0 +1,123 @@
+-- The turns of the loop that assigns rows, on lists; and what the panels find, told of the centroids. Assumes nothing.
+use Prim.Native.Nat.{ℕ, suc, _+_, _*_, _/_, _≤_, _<_}
+use mathlib.Core.Path.{_≡_, refl, sym, ap, _∙_}
+use mathlib.Core.Bool.{Bool, true, _&&_, and-true, and-assoc}
+use mathlib.Core.List.{List, _∷_, map-map}
+use native.Mathlib.Numerals.{add-one}
+use native.Mathlib.Omega.{arith}
+use lib.Dec.{eqb}
+use lib.Ieee.{Float, nan}
+use lib.ListN.{length, getD, take, drop, set, length-set, length-drop, drop-of-length-le}
+use lib.Seq.{drop-set-lt, drop-cons, length-take-le}
+use Rattle.sums.specs.Rows.{Row, rowsFrom, rowAt}
+use Rattle.sums.specs.Sums.{normOf}
+use Rattle.sums.specs.Tables.{tabulate}
+use Rattle.sums.proofs.Tables.{fill-more, fill-done, getD-tab, length-tab, tab-same}
+use Rattle.sums.proofs.Rows.{room, map-rows}
+use Rattle.labels.specs.declared.nearest.Nearest.{Nearest}
+use Rattle.labels.specs.Label.{nearest, nearests, labelsOf, distancesOf}
+use Rattle.labels.specs.Panels.{panelsOf}
+use Rattle.labels.specs.Inside.{alike, normsOf, byPanels, ByPanels, Assignable, Assigned}
+use Rattle.labels.proofs.Searches.{by-panels}
+
+-- the first i rows are assigned, whatever finds a row's nearest
+pub record Assigning (found : ℕ → Nearest) (labels₀ labels : List ℕ) (distances : List Float) (same : Bool) (i : ℕ) : Type 0 where
+  pub within : i ≤ length labels₀
+  pub labels-sized : length labels ≡ length labels₀
+  pub distances-sized : length distances ≡ length labels₀
+  pub labels-done : take i labels ≡ tabulate (λ j. found j .label) i
+  pub distances-done : take i distances ≡ tabulate (λ j. found j .distance) i
+  pub rest : drop i labels ≡ drop i labels₀
+  pub so-far : (same && alike (drop i labels₀) (drop i (tabulate (λ j. found j .label) (length labels₀)))) ≡ alike labels₀ (tabulate (λ j. found j .label) (length labels₀))
+
+pub assigning-start : (found : ℕ → Nearest) (labels : List ℕ) (distances : List Float) → length distances ≡ length labels → Assigning found labels labels distances true 0
+assigning-start found labels distances e = record {
+  within = omega arith;
+  labels-sized = refl;
+  distances-sized = e;
+  labels-done = refl;
+  distances-done = refl;
+  rest = refl;
+  so-far = refl;
+}
+
+-- what stands at i and later is as it was
+read : (l l₀ : List ℕ) (i : ℕ) → i < length l → i < length l₀ → drop i l ≡ drop i l₀ → (getD l i 0 ≡ getD l₀ i 0) × (drop (suc i) l ≡ drop (suc i) l₀)
+read l l₀ i h h₀ e =
+    let p : getD l i 0 ∷ drop (suc i) l ≡ getD l₀ i 0 ∷ drop (suc i) l₀ = sym (drop-cons l i 0 h) ∙ (e ∙ drop-cons l₀ i 0 h₀) in
+    (cc, cc)
+
+alike-on : (xs ys : List ℕ) (i : ℕ) → i < length xs → i < length ys
+    → alike (drop i xs) (drop i ys) ≡ (eqb (getD xs i 0) (getD ys i 0) && alike (drop (suc i) xs) (drop (suc i) ys))
+unfolding alike
+alike-on xs ys i h k = rw (drop-cons xs i 0 h, drop-cons ys i 0 k)
+
+alike-end : (xs ys : List ℕ) (i : ℕ) → length xs ≤ i → alike (drop i xs) ys ≡ true
+unfolding alike
+alike-end xs ys i h = rw (drop-of-length-le xs {i = i} h)
+
+module _ {found : ℕ → Nearest} {labels₀ labels : List ℕ} {distances : List Float} {same : Bool} {i : ℕ} (h : Assigning found labels₀ labels distances same i) where
+  pub assigning-step : (label : ℕ) (distance : Float) (same' : Bool) → i < length labels₀ → label ≡ found i .label → distance ≡ found i .distance
+      → same' ≡ (same && eqb (getD labels i 0) label)
+      → Assigning found labels₀ (set labels i label) (set distances i distance) same' (i + 1)
+  assigning-step label distance same' l p q s =
+      let n = length labels₀ in
+      let f : ℕ → ℕ = λ j. found j .label in
+      let ll : i < length labels = omega (arith, h .labels-sized) in
+      let old = read labels labels₀ i ll l (h .rest) in
+      record {
+        within = omega arith;
+        labels-sized = length-set labels i label ∙ h .labels-sized;
+        distances-sized = length-set distances i distance ∙ h .distances-sized;
+        labels-done = fill-more _ labels i label ll (h .labels-done) p;
+        distances-done = fill-more _ distances i distance (omega (arith, h .distances-sized)) (h .distances-done) q;
+        rest = rw (add-one i) (drop-set-lt (suc i) labels i label (omega arith) ∙ old .1);
+        so-far = rw (add-one i, s, old .0, p, ← (getD-tab f n i 0 l), and-assoc)
+            (ap (λ (b : Bool). same && b) (sym (alike-on labels₀ (tabulate f n) i l (rw (length-tab f n) l))) ∙ h .so-far);
+      }
+
+  pub assigning-labels : length labels₀ ≤ i → labels ≡ tabulate (λ j. found j .label) (length labels₀)
+  assigning-labels l =
+      let e : length labels₀ ≡ i = omega (arith, h .within) in
+      rw e (fill-done _ labels i (omega (arith, h .labels-sized)) (h .labels-done))
+
+  pub assigning-distances : length labels₀ ≤ i → distances ≡ tabulate (λ j. found j .distance) (length labels₀)
+  assigning-distances l =
+      let e : length labels₀ ≡ i = omega (arith, h .within) in
+      rw e (fill-done _ distances i (omega (arith, h .distances-sized)) (h .distances-done))
+
+  pub assigning-same : length labels₀ ≤ i → same ≡ alike labels₀ labels
+  assigning-same l =
+      rw (assigning-labels l)
+      (sym (and-true same) ∙ rw (alike-end labels₀ (drop i (tabulate (λ j. found j .label) (length labels₀))) i l) at (h .so-far))
+
+-- ---- labels and distances by index
+module _ (centroids : List Row) (dim n : ℕ) (values : List Float) where
+  pub labels-tab : labelsOf (nearests centroids (rowsFrom dim n values)) ≡ tabulate (λ i. nearest centroids (rowAt values dim i) .label) n
+  unfolding nearests
+  labels-tab = map-map (λ x. x .label) (nearest centroids) (rowsFrom dim n values) ∙ map-rows (λ r. nearest centroids r .label) dim n values
+
+  pub distances-tab : distancesOf (nearests centroids (rowsFrom dim n values)) ≡ tabulate (λ i. nearest centroids (rowAt values dim i) .distance) n
+  unfolding nearests
+  distances-tab = map-map (λ x. x .distance) (nearest centroids) (rowsFrom dim n values) ∙ map-rows (λ r. nearest centroids r .distance) dim n values
+
+-- ---- by panels as by centroids
+module _ {dim k : ℕ} {values own centroids : List Float} {n m : ℕ} (a : Assignable dim k values own centroids n m) where
+  -- row i's norm is at hand, and row i is dim long
+  same-nearest : (cells : ℕ) → (k + 15) / 16 * (16 * dim) ≤ cells → (i : ℕ) → i < n
+      → byPanels values own dim (panelsOf centroids dim k cells) (normsOf (rowsFrom dim k centroids)) i ≡ nearest (rowsFrom dim k centroids) (rowAt values dim i)
+  same-nearest cells wide i h =
+      let fits : i * dim + dim ≤ length values = omega (arith, room i n dim h, a .value-cells) in
+      let norm-is : getD own i nan ≡ normOf (rowAt values dim i)
+      = ap (λ (l : List Float). getD l i nan) (a .measured ∙ map-rows normOf dim n values) ∙ getD-tab (λ j. normOf (rowAt values dim j)) n i nan h in
+      rw norm-is (by-panels (rowAt values dim i) centroids dim k cells (a .centroid-cells) wide (length-take-le dim (drop (i * dim) values) (rw length-drop (omega arith))))
+
+  pub by-centroids : {panels norms : List Float} {labels₀ labels : List ℕ} {distances : List Float} {same : Bool} (cells : ℕ) → (k + 15) / 16 * (16 * dim) ≤ cells
+      → length labels₀ ≡ n → panels ≡ panelsOf centroids dim k cells → norms ≡ normsOf (rowsFrom dim k centroids)
+      → ByPanels values own dim panels norms labels₀ labels distances same
+      → Assigned (rowsFrom dim k centroids) (rowsFrom dim n values) labels₀ labels distances same
+  by-centroids cells wide e p q b = record {
+    labels-are = b .labels-are ∙ rw (e, p, q) (tab-same _ _ n (λ i h. ap (λ (x : Nearest). x .label) (same-nearest cells wide i h)) ∙ sym (labels-tab (rowsFrom dim k centroids) dim n values));
+    distances-are = b .distances-are ∙ rw (e, p, q) (tab-same _ _ n (λ i h. ap (λ (x : Nearest). x .distance) (same-nearest cells wide i h)) ∙ sym (distances-tab (rowsFrom dim k centroids) dim n values));
+    same-is = b .same-is;
+  }

@@ -1,0 +1,68 @@
+-- The search for the nearest centroid: score after score, panel after panel, and by panels as by centroids. Assumes nothing.
+use Prim.Native.Nat.{ℕ, suc, _+_, _*_, _/_, _%_, _≤_, _<_}
+use mathlib.Core.Path.{_≡_, refl, sym, ap, _∙_}
+use mathlib.Core.List.{List, [], _∷_, _++_}
+use native.Mathlib.Nat.{add-zero, zero-add, add-suc, suc-add}
+use native.Mathlib.Numerals.{add-one}
+use native.Mathlib.Omega.{arith}
+use lib.ListN.{length, getD}
+use lib.Ieee.{Float, nan}
+use Rattle.sums.specs.Rows.{Row, rowsFrom, rowAt}
+use Rattle.sums.specs.Sums.{normOf, dotOf}
+use Rattle.sums.specs.Tables.{tabulate}
+use Rattle.sums.proofs.Tables.{tab-add, tab-same, length-tab, getD-tab}
+use Rattle.sums.proofs.Rows.{room, map-rows}
+use Rattle.labels.specs.declared.nearest.Nearest.{Nearest}
+use Rattle.labels.specs.Label.{scoreFrom, score, better, nearestFrom, nothingYet, nearest}
+use Rattle.labels.specs.Panels.{columnOf, panelsOf}
+use Rattle.labels.specs.Inside.{panelScores, normsOf}
+use Rattle.labels.proofs.Columns.{column-centroid}
+
+from-append : (i : ℕ) (l m : List Float) (best : Nearest) → nearestFrom i (l ++ m) best ≡ nearestFrom (i + length l) m (nearestFrom i l best)
+unfolding nearestFrom
+from-append i [] m best = rw add-zero
+from-append i (s ∷ l) m best = from-append (suc i) l m (better i s best) ∙ rw (suc-add, add-suc)
+
+-- m scores more
+pub nearest-add : (f : ℕ → Float) (n m : ℕ) (best : Nearest)
+    → nearestFrom 0 (tabulate f (n + m)) best ≡ nearestFrom n (tabulate (λ j. f (n + j)) m) (nearestFrom 0 (tabulate f n) best)
+nearest-add f n m best = rw tab-add (from-append 0 (tabulate f n) (tabulate (λ j. f (n + j)) m) best ∙ rw (zero-add, length-tab))
+
+-- one more
+pub from-more : (i : ℕ) (f : ℕ → Float) (n : ℕ) (best : Nearest)
+    → nearestFrom i (tabulate f (n + 1)) best ≡ better (i + n) (f n) (nearestFrom i (tabulate f n) best)
+unfolding nearestFrom
+from-more i f n best = rw add-one (from-append i (tabulate f n) (f n ∷ []) best ∙ rw length-tab)
+
+-- ---- by panels: cluster c is column c % 16 of panel c / 16
+unfoldable pub panelScore : Row → Float → List Float → List Float → ℕ → Float
+panelScore row own panels norms c =
+    scoreFrom own (getD norms c nan) (dotOf row (columnOf (rowAt panels (16 * length row) (c / 16)) (length row) (c % 16)))
+
+pub panel-scores : (row : Row) (own : Float) (panels norms : List Float) → panelScores row own panels norms ≡ tabulate (panelScore row own panels norms) (length norms)
+unfolding panelScores panelScore
+panel-scores row own panels norms = refl
+
+pub norms-length : (dim k : ℕ) (centroids : List Float) → length (normsOf (rowsFrom dim k centroids)) ≡ k
+norms-length dim k centroids = ap length (map-rows normOf dim k centroids) ∙ length-tab _ k
+
+-- the panels of the centroids give the centroids' scores
+module _ (row : Row) (centroids : List Float) (dim k n : ℕ) (size : length centroids ≡ k * dim) (wide : (k + 15) / 16 * (16 * dim) ≤ n) (long : length row ≡ dim) where
+  one-score : (c : ℕ) → c < k → panelScore row (normOf row) (panelsOf centroids dim k n) (normsOf (rowsFrom dim k centroids)) c ≡ score row (rowAt centroids dim c)
+  unfolding panelScore score
+  one-score c h =
+      let e : 16 * (c / 16) + c % 16 ≡ c = omega arith in
+      rw (
+        long,
+        column-centroid centroids dim k n (c / 16) (c % 16) (omega arith) (omega (arith, room (c / 16) ((k + 15) / 16) (16 * dim) (omega arith))) size (rw e h),
+        e,
+        map-rows normOf dim k centroids,
+        getD-tab (λ i. normOf (rowAt centroids dim i)) k c nan h,
+      )
+
+  pub by-panels : nearestFrom 0 (panelScores row (normOf row) (panelsOf centroids dim k n) (normsOf (rowsFrom dim k centroids))) nothingYet ≡ nearest (rowsFrom dim k centroids) row
+  unfolding nearest
+  by-panels =
+      ap (λ (scores : List Float). nearestFrom 0 scores nothingYet)
+      (panel-scores row (normOf row) (panelsOf centroids dim k n) (normsOf (rowsFrom dim k centroids))
+      ∙ rw (norms-length dim k centroids) (tab-same _ _ k one-score ∙ sym (map-rows (score row) dim k centroids)))

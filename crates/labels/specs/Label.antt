@@ -1,0 +1,43 @@
+-- 01, 'Sums in stated order', score and label: a row against the centroids. Only this one row is read, so other rows never change its label.
+use mathlib.Core.Bool.{Bool, cond}
+use mathlib.Core.List.{List, [], _∷_, map}
+use Prim.Native.Nat.{ℕ, suc}
+use lib.Ieee.{Float, binary32, add, sub, mul, lt}
+use Rattle.sums.specs.Rows.{Row}
+use Rattle.sums.specs.Sums.{zero32, two32, infinity, normOf, dotOf}
+use Rattle.labels.specs.declared.nearest.Nearest.{Nearest}
+
+-- from the two norms and the dot: the norms added, twice the dot taken away; what is below zero becomes +0.0, and a NaN stays
+unfoldable pub scoreFrom : Float → Float → Float → Float
+scoreFrom own other dot =
+    let raw = sub binary32 (add binary32 own other) (mul binary32 two32 dot) in
+    cond (lt raw zero32) zero32 raw
+
+unfoldable pub score : Row → Row → Float
+score row centroid = scoreFrom (normOf row) (normOf centroid) (dotOf row centroid)
+
+-- a score strictly below the best takes its place
+unfoldable pub better : ℕ → Float → Nearest → Nearest
+better cluster s best = cond (lt s (best .distance)) (record { label = cluster; distance = s }) best
+
+-- the scores left, the first of them the cluster's, against the best so far
+unfoldable pub nearestFrom : ℕ → List Float → Nearest → Nearest
+nearestFrom cluster [] best = best
+nearestFrom cluster (s ∷ scores) best = nearestFrom (suc cluster) scores (better cluster s best)
+
+-- cluster 0 at infinity: where the search starts, and its answer where no score is below infinity
+abbrev pub nothingYet : Nearest
+nothingYet = record { label = 0; distance = infinity }
+
+unfoldable pub nearest : List Row → Row → Nearest
+nearest centroids row = nearestFrom 0 (map (score row) centroids) nothingYet
+
+-- labelling: one answer a row
+unfoldable pub nearests : List Row → List Row → List Nearest
+nearests centroids rows = map (nearest centroids) rows
+
+abbrev pub labelsOf : List Nearest → List ℕ
+labelsOf found = map (λ n. n .label) found
+
+abbrev pub distancesOf : List Nearest → List Float
+distancesOf found = map (λ n. n .distance) found

@@ -1,0 +1,174 @@
+// The nearest centroid of a row, and of many rows (the source's assign_points_for_update and compute_chunk_assignments_only).
+ghost use mathlib.Core.Path.{_≡_};
+ghost use mathlib.Core.Bool.{_&&_};
+ghost use Prim.Native.Nat.{_+_, _-_, _*_, _/_, _≤_, _<_};
+ghost use lib.Dec.{eqb};
+ghost use lib.ListN.{length};
+ghost use lib.Ieee.{nan};
+ghost use Rattle.sums.specs.Rows.{rowsFrom};
+ghost use Rattle.sums.specs.Sums.{infinity as Sums·infinity, normOf};
+ghost use Rattle.labels.specs.Label.{scoreFrom, nearestFrom, nothingYet};
+ghost use Rattle.labels.specs.Inside.{normsOf, panelScores, Assignable, Assigned, Scanned, ByPanels};
+use crate::lanes;
+
+// A cluster, and the score of a row against it.
+pub struct Nearest {
+    pub label: u16,
+    pub distance: f32,
+}
+
+fn score(own: f32, other: f32, dot: f32) -> f32
+    ensures { λ r. ⌜ r ≡ scoreFrom own other dot ⌝ }
+{
+    let raw = (own + other) - (2.0f32 * dot);
+    if raw < 0.0f32 {
+        return 0.0f32;
+    }
+    raw
+}
+
+fn infinity() -> f32
+    ensures { λ r. ⌜ r ≡ Sums·infinity ⌝ }
+{
+    f32::from_bits(0x7f80_0000)
+}
+
+fn least(a: usize, b: usize) -> usize
+    ensures { λ r. ⌜ r ≡ a - (a - b) ⌝ }
+{
+    if a < b { a } else { b }
+}
+
+// best, after the scores of `count` clusters from `from` on, whose dots with the row are the first of `dots`.
+fn scan16(
+    best: Nearest,
+    own: f32,
+    dots: &[f32; 16],
+    norms: &[f32],
+    from: usize,
+    count: usize,
+) -> Nearest
+    requires { ⌜ (count ≤ 16) × ((from + count ≤ length (now norms)) × (length (now norms) ≤ 65536)) ⌝ }
+    ensures { λ r. ⌜ r ≡ Scanned best own (now (dots .entry)) (now (norms .entry)) from count ⌝ }
+{
+    let mut found = best;
+    let mut j = 0usize;
+    while j < count {
+        let c = from + j;
+        let s = score(own, norms[c], dots[j]);
+        if s < found.distance {
+            found = Nearest {
+                label: c as u16,
+                distance: s,
+            };
+        }
+        j += 1;
+    }
+    found
+}
+
+// The nearest of the centroids that are laid out in panels; `own` is the row's norm.
+fn find_nearest(row: &[f32], own: f32, panels: &[f32], norms: &[f32]) -> Nearest
+    requires { ⌜ (length (now row) ≤ 64) × (length (now norms) ≤ 64) ⌝ }
+    requires { ⌜ (length (now norms) + 15) / 16 * (16 * length (now row)) ≤ length (now panels) ⌝ }
+    ensures { λ r. ⌜ r ≡ nearestFrom 0 (panelScores (now (row .entry)) own (now (panels .entry)) (now (norms .entry))) nothingYet ⌝ }
+{
+    let k = norms.len();
+    let wide = 16 * row.len();
+    let mut best = Nearest {
+        label: 0,
+        distance: infinity(),
+    };
+    let mut from = 0usize;
+    let mut at = 0usize;
+    while from < k {
+        let count = least(k - from, 16);
+        let end = at + wide;
+        let dots = lanes::dots16(row, &panels[at..end]);
+        best = scan16(best, own, &dots, norms, from, count);
+        from += count;
+        at = end;
+    }
+    best
+}
+
+// The norms of rows of dim values, one after the other.
+pub fn compute_norms(values: &[f32], dim: usize, norms: &mut [f32])
+    requires { ⌜ length (now values) ≡ length (now norms) * dim ⌝ }
+    ensures { λ _. ⌜ now (norms .exit) ≡ normsOf (rowsFrom dim (length (now (norms .entry))) (now (values .entry))) ⌝ }
+{
+    let mut i = 0usize;
+    while i < norms.len() {
+        let at = i * dim;
+        let end = at + dim;
+        norms[i] = sums::math::norm(&values[at..end]);
+        i += 1;
+    }
+}
+
+fn still(same: bool, old: u16, new: u16) -> bool
+    ensures { λ r. ⌜ r ≡ (same && eqb old new) ⌝ }
+{
+    if old == new {
+        return same;
+    }
+    false
+}
+
+// Labels and distances of the rows, the centroids being laid out in panels.
+fn assign_by_panels(
+    values: &[f32],
+    own: &[f32],
+    dim: usize,
+    panels: &[f32],
+    norms: &[f32],
+    labels: &mut [u16],
+    distances: &mut [f32],
+) -> bool
+    requires { ⌜ (length (now values) ≡ length (now labels) * dim) × ((length (now distances) ≡ length (now labels)) × (length (now own) ≡ length (now labels))) ⌝ }
+    requires { ⌜ (dim ≤ 64) × ((length (now norms) ≤ 64) × ((length (now norms) + 15) / 16 * (16 * dim) ≤ length (now panels))) ⌝ }
+    ensures { λ r. ⌜ ByPanels (now (values .entry)) (now (own .entry)) dim (now (panels .entry)) (now (norms .entry)) (now (labels .entry)) (now (labels .exit)) (now (distances .exit)) r ⌝ }
+{
+    let mut same = true;
+    let mut i = 0usize;
+    while i < labels.len() {
+        let at = i * dim;
+        let end = at + dim;
+        let found = find_nearest(&values[at..end], own[i], panels, norms);
+        same = still(same, labels[i], found.label);
+        labels[i] = found.label;
+        distances[i] = found.distance;
+        i += 1;
+    }
+    same
+}
+
+// Labels and distances of the rows; true exactly where every label is the one that stood there.
+pub fn assign_rows(
+    values: &[f32],
+    own: &[f32],
+    dim: usize,
+    centroids: &[f32],
+    k: usize,
+    labels: &mut [u16],
+    distances: &mut [f32],
+) -> bool
+    requires { ⌜ Assignable dim k (now values) (now own) (now centroids) (length (now labels)) (length (now distances)) ⌝ }
+    ensures { λ r. ⌜ Assigned (rowsFrom dim k (now (centroids .entry))) (rowsFrom dim (length (now (labels .entry))) (now (values .entry))) (now (labels .entry)) (now (labels .exit)) (now (distances .exit)) r ⌝ }
+{
+    let mut room = [0.0f32; 4096];
+    let mut lengths = [0.0f32; 64];
+    let count = (k + 15) / 16;
+    let cells = count * (16 * dim);
+    lanes::fill_panels(centroids, dim, k, count, &mut room[..cells]);
+    compute_norms(centroids, dim, &mut lengths[..k]);
+    assign_by_panels(
+        values,
+        own,
+        dim,
+        &room[..cells],
+        &lengths[..k],
+        labels,
+        distances,
+    )
+}
