@@ -17,8 +17,8 @@ use lib.Ieee.Order.{round-mono, le-of-values}
 use lib.Ieee.Positive.{above-of-le, le→cross}
 use Rattle.sums.specs.Rows.{Row}
 use Rattle.sums.specs.Sums.{zero32, one32, square, sumFrom, apartOf}
-use Rattle.closure.proofs.Lists.{both}
-use Rattle.closure.proofs.FloatOrder.{le-trans}
+use Rattle.sums.proofs.Refusing.{both}
+use Rattle.sums.proofs.Floats.{le-trans}
 
 -- ---- rounding keeps what the format holds
 pow-le : (i j : ℕ) → 2 ^ i ≤ 2 ^ j → i ≤ j

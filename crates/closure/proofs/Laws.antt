@@ -22,7 +22,9 @@ use Rattle.closure.specs.declared.ClosureAnswer.the-variants.{Listed, Re
 use Rattle.closure.specs.Closure.{nearer, inReach, anyNan, distances, closure, listed, unordered, reachOf}
 use Rattle.closure.specs.Call.{answered, refuseNan, closureRefusal, closureCall, Gives}
 use Rattle.closure.specs.Inside.{chosen}
-use Rattle.closure.proofs.Lists.{take-map, take-least, keep-append, keep-le, padded-none, padded-more, both, passed}
+use Rattle.sums.proofs.Fronts.{take-map, take-least}
+use Rattle.sums.proofs.Orders.{keep-append, keep-le}
+use Rattle.sums.proofs.Refusing.{padded-none, padded-more, both, within-is, passed}
 
 -- ---- a NaN is what differs from itself
 level-self : (m : ℕ) → (eqb m m && true) ≡ true
@@ -136,13 +138,13 @@ pub record Fitting (dim count row centroids cells : ℕ) : Type 0 where
   pub cells-are : cells ≡ count
 
 pub fitting : (dim count row centroids cells : ℕ) → closureRefusal dim count row centroids cells ≡ 0 → Fitting dim count row centroids cells
-unfolding closureRefusal lowestFrom
+unfolding closureRefusal
 fitting dim count row centroids cells e =
-    let one = passed (within 1 64 dim && within 0 64 count) 0 _ e in
-    let two = both _ _ (passed (eqb row dim && eqb centroids (count * dim) && eqb cells count) 1 0 (one .1) .0) in
+    let all = passed 0 ((within 1 64 dim && within 0 64 count) ∷ (eqb row dim && eqb centroids (count * dim) && eqb cells count) ∷ []) e in
+    let two = both _ _ (all .1 .0) in
     let more = both _ _ (two .0) in
     record {
-      few = leb-true count 64 (both (leb 0 count) (leb count 64) (both (within 1 64 dim) (within 0 64 count) (one .0) .1) .1);
+      few = within-is 0 64 count (both (within 1 64 dim) (within 0 64 count) (all .0) .1) .1;
       row-is = eqb-true row dim (more .0);
       rows-are = eqb-true centroids (count * dim) (more .1);
       cells-are = eqb-true cells count (two .1);

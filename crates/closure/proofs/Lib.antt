@@ -1,7 +1,4 @@
 -- The laws of closure, and what it promises.
-pub mod Lists
-pub mod Pairs
-pub mod FloatOrder
 pub mod FloatGrowth
 pub mod Laws
 pub mod Nearer

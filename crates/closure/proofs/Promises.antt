@@ -16,7 +16,7 @@ use Rattle.closure.specs.declared.ClosureAnswer.{ClosureAnswer}
 use Rattle.closure.specs.declared.ClosureAnswer.the-variants.{Listed, Refused}
 use Rattle.closure.specs.Closure.{nearer, reachOf, listed, distances, closure, unordered}
 use Rattle.closure.specs.Call.{told, Gives}
-use Rattle.closure.proofs.Pairs.{Pairs, all-at, all-map, pairs-map, pairs-at, pairs-in-order}
+use Rattle.sums.proofs.Pairs.{Pairs, all-at, all-map, pairs-map, pairs-at, pairs-in-order}
 use Rattle.closure.proofs.Nearer.{Apart, listed-all, listed-pairs, listed-le, order-below, order-apart, order-behind, first-in, is-first}
 
 module _ (epsilon : Float) (replicas : ℕ) (row : Row) (centroids : List Row) where

@@ -14,7 +14,9 @@ use Rattle.sums.specs.Ordering.{orderFrom, order}
 use Rattle.sums.proofs.Picks.{below-up}
 use Rattle.sums.proofs.Weighs.{countOf, one, weigh-append}
 use Rattle.labels.specs.Pool.{farther, blockPool, blockPools}
-use Rattle.labels.proofs.PoolLists.{length-cut, below-nil, below-more, below-take, below-append, below-moved, below-order, weigh-take, weigh-order, count-below, count-up, count-under, Distinct, moved-distinct}
+use Rattle.sums.proofs.Fronts.{length-cut}
+use Rattle.sums.proofs.Belows.{below-nil, below-more, below-take, below-append, below-moved, below-order}
+use Rattle.sums.proofs.Counts.{weigh-take, weigh-order, count-below, count-up, count-under, Distinct, moved-distinct}
 
 -- ---- one block, and none
 pub below-block : (ds : List Float) → Below (length ds) (blockPool ds)

@@ -13,7 +13,7 @@ use Rattle.labels.specs.Label.{nearests, labelsOf}
 use Rattle.labels.specs.Call.{labelRefusal, labelCall, told, Gives}
 use Rattle.labels.specs.declared.label.LabelAnswer.{LabelAnswer}
 use Rattle.labels.specs.declared.label.LabelAnswer.the-variants.{Labelled, Refused}
-use Rattle.labels.proofs.Lists.{both, within-is, passed, padded-all, padded-none}
+use Rattle.sums.proofs.Refusing.{both, within-is, passed, padded-all, padded-none}
 use Rattle.labels.proofs.Assigns.{labels-tab}
 
 pub record Fitting (rows dim k values centroids cells : ℕ) : Type 0 where

@@ -13,10 +13,9 @@ use Rattle.sums.specs.Rows.{Row, rowAt}
 use Rattle.sums.specs.Sums.{zero32, dotOf, sumFrom}
 use Rattle.sums.specs.Tables.{tabulate}
 use Rattle.sums.proofs.Tables.{getD-tab, length-tab, tab-same}
-use Rattle.sums.proofs.Rows.{room}
+use Rattle.sums.proofs.Rows.{room, row-of, cell-of}
 use Rattle.sums.proofs.Sums.{dot-snoc}
 use Rattle.labels.specs.Panels.{valueAt, lineOf, panelOf, panelsOf, columnOf, laneOf, dotsOf}
-use Rattle.labels.proofs.Lists.{row-of, cell-of}
 
 -- ---- sixteen dots: the dot of the row's first i values with column j
 abbrev pub laneAt : List Float → Float → List Float → ℕ → ℕ → Float

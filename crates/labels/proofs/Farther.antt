@@ -11,12 +11,11 @@ use borrow.Author.Tests.{ltb-false, le-ltb}
 use Rattle.sums.specs.Ordering.{place}
 use Rattle.sums.specs.Cells.{Below}
 use Rattle.sums.proofs.Orders.{InOrder}
-use Rattle.sums.proofs.Floats.{lt-asym, le-lt-trans, ltb-asym, not-true-false}
+use Rattle.sums.proofs.Floats.{lt-asym, le-lt-trans, ltb-asym, not-true-false, lt-known, le-total}
 use Rattle.labels.specs.declared.nearest.Nearest.{Nearest}
 use Rattle.labels.specs.Label.{better, nearestFrom}
 use Rattle.labels.specs.Pool.{farther}
-use Rattle.labels.proofs.PoolLists.{below-head, below-tail}
-use Rattle.labels.proofs.Comparing.{not-lt-le, lt-known}
+use Rattle.sums.proofs.Belows.{below-head, below-tail}
 
 -- no distance is a NaN
 abbrev pub Known : List Float → Type 0
@@ -57,7 +56,7 @@ module _ (ds : List Float) where
   module _ (known : Known ds) where
     -- what is at most the other, by the test that fails
     at-most : (a b : ℕ) → a < length ds → b < length ds → lt (getD ds a nan) (getD ds b nan) ≡ false → le (getD ds b nan) (getD ds a nan) ≡ true
-    at-most a b i j e = not-lt-le (getD ds a nan) (getD ds b nan) (known a i) (known b j) e
+    at-most a b i j e = le-total (getD ds b nan) (getD ds a nan) (known b j) (known a i) e
 
     -- a, b, c in this order: if neither neighbour is out of place, c is not before a
     pub behind-both : (a b c : ℕ) → a < length ds → b < length ds → c < length ds → farther ds b a ≡ false → farther ds c b ≡ false → farther ds c a ≡ false

@@ -1,13 +1,10 @@
 -- The laws that the proofs of this layer share, and what labelling and the pool promise.
-pub mod Lists
 pub mod Columns
 pub mod Searches
 pub mod Assigns
 pub mod Calls
 pub mod Firsts
 pub mod Promises
-pub mod PoolLists
-pub mod Comparing
 pub mod Blocks
 pub mod Pools
 pub mod Farther

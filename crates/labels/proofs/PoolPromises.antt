@@ -19,8 +19,10 @@ use Rattle.sums.proofs.Weighs.{one}
 use Rattle.labels.specs.Label.{score, nothingYet, nearest, nearests, distancesOf}
 use Rattle.labels.specs.Pool.{farther, blockPool, blockPools, pool}
 use Rattle.labels.specs.Inside.{Holds, Pooled}
-use Rattle.labels.proofs.PoolLists.{Distinct, length-cut, below-nil, below-more, below-order, weigh-take, weigh-order, length-order}
-use Rattle.labels.proofs.Comparing.{eq-not-lt}
+use Rattle.sums.proofs.Counts.{Distinct, weigh-take, weigh-order, length-order}
+use Rattle.sums.proofs.Fronts.{length-cut}
+use Rattle.sums.proofs.Belows.{below-nil, below-more, below-order}
+use Rattle.sums.proofs.Floats.{eq-not-lt}
 use Rattle.labels.proofs.Farther.{from-known, Known, farther-asym, before-not, behind-all}
 use Rattle.labels.proofs.Blocks.{below-blocks, blocks-distinct}
 

@@ -16,7 +16,8 @@ use Rattle.sums.proofs.Orders.{order-append, order-take}
 use Rattle.labels.specs.Pool.{farther, blockPool, blockPools, pool}
 use Rattle.labels.specs.Inside.{Holds, Pooled}
 use Rattle.labels.proofs.Blocks.{below-block, blocks-none}
-use Rattle.labels.proofs.PoolLists.{place-within, place-past, place-in, inserted-rest, below-nil, below-at, below-take, below-place}
+use Rattle.sums.proofs.Inserts.{place-within, place-past, place-in, inserted-rest}
+use Rattle.sums.proofs.Belows.{below-nil, below-at, below-take, below-place}
 
 -- ---- one insertion
 module _ (ds : List Float) (at : List ℕ) (count cap p : ℕ) (h : Holds ds at count cap) (l : p < length ds) where

@@ -14,7 +14,7 @@ use Rattle.labels.specs.declared.label.LabelAnswer.{LabelAnswer}
 use Rattle.labels.specs.declared.label.LabelAnswer.the-variants.{Labelled}
 use Rattle.labels.specs.Label.{score, nearest, nearests, labelsOf, distancesOf}
 use Rattle.labels.specs.Call.{labelRefusal, labelCall, told, Gives}
-use Rattle.labels.proofs.Lists.{padded-all}
+use Rattle.sums.proofs.Refusing.{padded-all}
 use Rattle.labels.proofs.Calls.{fitting, told-once}
 use Rattle.labels.proofs.Assigns.{labels-tab, distances-tab}
 use Rattle.labels.proofs.Firsts.{FirstOf, first-of, nearest-below}

@@ -2,7 +2,7 @@
 use Prim.Native.Nat.{ℕ, zero, suc, _+_, _-_, _*_, _/_, _%_, _≤_, _<_}
 use mathlib.Core.Path.{_≡_, refl, sym, ap, _∙_}
 use mathlib.Core.List.{List, [], _∷_, _++_, map, append-assoc, flatten}
-use native.Mathlib.Nat.{suc-mul, zero-mul, mul-le-mul-right, le-of-suc-le-suc, not-suc-le-zero, add-sub-cancel-left, add-comm}
+use native.Mathlib.Nat.{zero-add, add-mul-div-right, add-mul-mod-self-right, div-eq-of-lt, mod-eq-of-lt, suc-mul, zero-mul, mul-le-mul-right, le-of-suc-le-suc, not-suc-le-zero, add-sub-cancel-left, add-comm}
 use native.Mathlib.Omega.{arith}
 use lib.ListN.{length, getD, set, take, drop, length-drop, replicate, length-replicate, replicate-append-replicate, take-append-drop}
 use lib.Seq.{take-at, drop-at, take-add, drop-drop, length-take-le}
@@ -14,6 +14,15 @@ use Rattle.sums.proofs.Tables.{tab-same, tab-front}
 -- row j of k rows lies inside
 pub room : (j k dim : ℕ) → j < k → j * dim + dim ≤ k * dim
 room j k dim h = rw suc-mul at (mul-le-mul-right dim h)
+
+-- cell d of row j: the quotient is the row, the remainder the cell
+pub row-of : (j dim d : ℕ) → d < dim → (j * dim + d) / dim ≡ j
+row-of j dim d h =
+    let some : 0 < dim = omega arith in
+    rw (add-comm (j * dim) d, add-mul-div-right d j some, div-eq-of-lt h, zero-add)
+
+pub cell-of : (j dim d : ℕ) → d < dim → (j * dim + d) % dim ≡ d
+cell-of j dim d h = rw (add-comm (j * dim) d, add-mul-mod-self-right d j dim, mod-eq-of-lt h)
 
 module _ {A : Type 0} where
   pub rows-length : (dim n : ℕ) (values : List A) → length (rowsFrom dim n values) ≡ n

@@ -6,7 +6,7 @@ use lib.Seq.{length-take-le}
 use lib.Ieee.{binary32, ofBits}
 use Rattle.sums.specs.Refusals.{blankCell}
 use Rattle.closure.specs.Call.{closureRefusal}
-use Rattle.closure.proofs.Lists.{padded-none, above-none}
+use Rattle.sums.proofs.Refusing.{padded-none, above-none}
 use Rattle.closure.proofs.Laws.{Fitting, fitting, call-refused, call-on, answered-none, gives-refused, gives-list}
 use borrow.Author.Needs.{needs}
 use Rattle.closure.proofs.assign.Statement.{statement}

@@ -5,7 +5,7 @@ use lib.ListN.{length, take}
 use lib.Seq.{length-take-le}
 use Rattle.sums.specs.Rows.{rowsFrom}
 use Rattle.closure.specs.Closure.{distances, unordered}
-use Rattle.closure.proofs.Lists.{below-take}
+use Rattle.sums.proofs.Belows.{below-take}
 use Rattle.closure.proofs.Laws.{distances-length, is-closure, answered-nan, answered-list, gives-refused, gives-list, chosen-le}
 use native.Mathlib.Omega.{arith}
 use borrow.Author.Needs.{needs}

@@ -5,7 +5,7 @@ use mathlib.Core.Logic.{⊎-elim}
 use lib.ListN.{length, length-set}
 use lib.Seq.{take-all}
 use Rattle.closure.specs.Inside.{chosen}
-use Rattle.closure.proofs.Lists.{padded-none}
+use Rattle.sums.proofs.Refusing.{padded-none}
 use Rattle.closure.proofs.Laws.{Turn, listed-in, passed-by}
 use borrow.Author.Needs.{needs}
 use native.Mathlib.Omega.{arith}

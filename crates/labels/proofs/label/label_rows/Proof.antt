@@ -1,6 +1,6 @@
 use Rattle.labels.proofs.Calls.{Fitting, fitting, gives-refused, gives-labels}
 use Rattle.labels.proofs.Searches.{norms-length}
-use Rattle.labels.proofs.Lists.{Front, front}
+use Rattle.sums.proofs.Fronts.{Front, front}
 use Rattle.labels.specs.Call.{labelRefusal}
 use Rattle.labels.specs.Inside.{normsOf}
 use Rattle.labels.specs.Label.{labelsOf, nearests}

@@ -1,6 +1,6 @@
 use Rattle.labels.specs.Panels.{panelOf}
 use Rattle.labels.proofs.Columns.{inPanel, line-is}
-use Rattle.labels.proofs.Lists.{fill-part}
+use Rattle.sums.proofs.Fronts.{fill-part}
 use Rattle.sums.proofs.Tables.{fill-done}
 use Rattle.sums.specs.Tables.{tabulate}
 use lib.ListN.{length, take, length-take, length-drop}

@@ -1,5 +1,5 @@
 use Rattle.labels.proofs.Columns.{inPanels, panel-is}
-use Rattle.labels.proofs.Lists.{fill-part}
+use Rattle.sums.proofs.Fronts.{fill-part}
 use Rattle.labels.specs.Panels.{panelsOf}
 use Rattle.sums.proofs.Rows.{room}
 use Rattle.sums.proofs.Tables.{fill-done}

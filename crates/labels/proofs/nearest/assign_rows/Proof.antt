@@ -1,4 +1,4 @@
-use Rattle.labels.proofs.Lists.{Front, front}
+use Rattle.sums.proofs.Fronts.{Front, front}
 use Rattle.labels.proofs.Assigns.{by-centroids}
 use Rattle.labels.proofs.Searches.{norms-length}
 use Rattle.labels.proofs.Columns.{panels-length}

@@ -1,5 +1,5 @@
 use Rattle.labels.proofs.Pools.{stays, goes-in}
-use Rattle.labels.proofs.PoolLists.{place-within}
+use Rattle.sums.proofs.Inserts.{place-within}
 use Rattle.labels.specs.Pool.{farther}
 use mathlib.Core.Logic.{inl, inr}
 use mathlib.Core.Path.{refl}
