@@ -2,7 +2,7 @@
 use Prim.Native.Nat.{ℕ, zero, suc, _+_, _-_, _≤_, _<_, suc-le-suc, zero-le}
 use mathlib.Core.Path.{_≡_, refl, sym, ap, _∙_}
 use mathlib.Core.Bool.{Bool, true, false}
-use mathlib.Core.List.{List, [], _∷_, _++_, map, append-assoc}
+use mathlib.Core.List.{List, [], _∷_, _++_, map, flatMap, append-assoc}
 use native.Mathlib.Nat.{not-suc-le-zero, le-of-suc-le-suc, add-sub-cancel-left}
 use native.Mathlib.Omega.{arith}
 use borrow.Author.Tests.{leb-true, leb-false}
@@ -82,3 +82,8 @@ module _ {A B : Type 0} (f : A → B) where
   drop-map zero l = refl
   drop-map (suc n) [] = refl
   drop-map (suc n) (x ∷ l) = drop-map n l
+
+pub flat-append : {A B : Type 0} (f : A → List B) (l m : List A) → flatMap f (l ++ m) ≡ flatMap f l ++ flatMap f m
+unfolding flatMap
+flat-append f [] m = refl
+flat-append {B = B} f (x ∷ l) m = ap (λ (r : List B). f x ++ r) (flat-append f l m) ∙ sym (append-assoc (f x) (flatMap f l) (flatMap f m))

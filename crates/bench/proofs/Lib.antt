@@ -1,0 +1,2 @@
+-- The laws that the proofs of the exported functions share.
+pub mod Exporting

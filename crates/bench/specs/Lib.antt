@@ -1,0 +1,2 @@
+-- The exported functions as definitions.
+pub mod Exports
