@@ -14,12 +14,12 @@ use Rattle.sums.specs.Cells.{Below}
 use Rattle.sums.specs.Tables.{upTo}
 use Rattle.sums.specs.Rows.{Row}
 use Rattle.sums.proofs.Tables.{up-length}
-use Rattle.sums.proofs.Orders.{InOrder, order-in-order, take-in-order, place-take}
+use Rattle.sums.proofs.Orders.{InOrder, order-in-order, take-in-order, place-take, order-length}
 use Rattle.sums.proofs.Weighs.{one}
 use Rattle.labels.specs.Label.{score, nothingYet, nearest, nearests, distancesOf}
 use Rattle.labels.specs.Pool.{farther, blockPool, blockPools, pool}
 use Rattle.labels.specs.Inside.{Holds, Pooled}
-use Rattle.sums.proofs.Counts.{Distinct, weigh-take, weigh-order, length-order}
+use Rattle.sums.proofs.Counts.{Distinct, weigh-take, weigh-order}
 use Rattle.sums.proofs.Fronts.{length-cut}
 use Rattle.sums.proofs.Belows.{below-nil, below-more, below-order}
 use Rattle.sums.proofs.Floats.{eq-not-lt}
@@ -42,7 +42,7 @@ block-in-order ds =
 -- A block gives eight positions, or all if it has fewer rows.
 pub block-size : (ds : List Float) → length (blockPool ds) ≡ 8 - (8 - length ds)
 unfolding blockPool
-block-size ds = length-cut 8 (order (farther ds) (upTo (length ds))) ∙ rw (length-order (farther ds) [] (upTo (length ds)), up-length (length ds)) (omega arith)
+block-size ds = length-cut 8 (order (farther ds) (upTo (length ds))) ∙ rw (order-length (farther ds) [] (upTo (length ds)), up-length (length ds)) (omega arith)
 
 -- A pool that is cut holds no more than its bound.
 pub pool-bounded : (block cap : ℕ) (ds : List Float) → length (take cap (pool block ds)) ≤ cap

@@ -5,7 +5,9 @@ use mathlib.Core.Bool.{Bool, true, false, cond}
 use mathlib.Core.List.{List, [], _∷_, _++_, map}
 use native.Mathlib.Nat.{not-suc-le-zero, le-of-suc-le-suc}
 use native.Mathlib.Omega.{arith}
-use lib.ListN.{length, getD, take, drop, length-drop}
+use borrow.Author.Tests.{ltb-true, ltb-false}
+use lib.Dec.{ltb}
+use lib.ListN.{length, getD, take, drop, length-drop, List·getD-eq-default}
 use lib.Seq.{length-take-le, getD-take, getD-drop}
 use Rattle.sums.specs.Cells.{inserted, Below}
 use Rattle.sums.specs.Ordering.{place, orderFrom}
@@ -58,6 +60,14 @@ module _ (before : ℕ → ℕ → Bool) where
   unfolding orderFrom
   below-order m held [] h b = h
   below-order m held (x ∷ l) h b = below-order m (place before x held) l (below-place m x held (below-head m x l b) h) (below-tail m x l b)
+
+-- a number past the end reads as 0
+pub below-any : (m : ℕ) (l : List ℕ) → 0 < m → Below m l → (i : ℕ) → getD l i 0 < m
+below-any m l h b i = go (ltb i (length l)) refl
+  where
+    go : (t : Bool) → ltb i (length l) ≡ t → getD l i 0 < m
+    go true e = b i (ltb-true i (length l) e)
+    go false e = rw (List·getD-eq-default l 0 {n = i} (omega (arith, ltb-false i (length l) e))) h
 
 pub below-drop : (m n : ℕ) (l : List ℕ) → Below m l → Below m (drop n l)
 below-drop m n l b i h = rw (getD-drop n l i 0) (b (n + i) (omega (arith, length-drop n l)))

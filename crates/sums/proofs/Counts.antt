@@ -13,7 +13,7 @@ use Rattle.sums.specs.Ordering.{place, orderFrom}
 use Rattle.sums.specs.Tables.{upTo}
 use Rattle.sums.proofs.Belows.{below-head, below-tail}
 use Rattle.sums.proofs.Picks.{below-up}
-use Rattle.sums.proofs.Weighs.{weigh, one, countOf, weigh-append, weigh-length}
+use Rattle.sums.proofs.Weighs.{weigh, one, countOf, weigh-append}
 
 pub weigh-take : (f : ℕ → ℕ) (n : ℕ) (l : List ℕ) → weigh f (take n l) ≤ weigh f l
 weigh-take f zero l = omega arith
@@ -35,9 +35,6 @@ module _ (before : ℕ → ℕ → Bool) (f : ℕ → ℕ) where
   unfolding orderFrom
   weigh-order held [] = omega arith
   weigh-order held (x ∷ l) = omega (arith, weigh-order (place before x held) l, weigh-place x held)
-
-pub length-order : (before : ℕ → ℕ → Bool) (held l : List ℕ) → length (orderFrom before held l) ≡ length held + length l
-length-order before held l = sym (weigh-length (orderFrom before held l)) ∙ (weigh-order before (λ _. 1) held l ∙ rw (weigh-length held, weigh-length l))
 
 -- a number that all are below stands nowhere
 pub count-below : (m x : ℕ) (l : List ℕ) → Below m l → m ≤ x → countOf x l ≡ 0

@@ -8,7 +8,7 @@ use native.Mathlib.Omega.{arith}
 use borrow.Author.Tests.{leb-true, leb-false}
 use borrow.Rule.Slice.PartMut.{putMid}
 use lib.Dec.{leb}
-use lib.ListN.{length, take, drop, length-append}
+use lib.ListN.{length, take, drop, length-append, length-drop}
 use lib.Seq.{take-nil, take-take, take-all, take-at, length-take-le}
 use Rattle.sums.specs.Tables.{tabulate}
 use Rattle.sums.proofs.Tables.{tab-add, length-tab}
@@ -82,6 +82,11 @@ module _ {A B : Type 0} (f : A → B) where
   drop-map zero l = refl
   drop-map (suc n) [] = refl
   drop-map (suc n) (x ∷ l) = drop-map n l
+
+module _ {A : Type 0} where
+  -- a front part that comes back as long as it was lent leaves the list as long as it was
+  pub front-back : (n : ℕ) (l xs : List A) → n ≤ length l → length xs ≡ length (take n l) → length (xs ++ drop n l) ≡ length l
+  front-back n l xs h e = length-append xs (drop n l) ∙ omega (arith, length-take-le n l h, length-drop n l, e)
 
 pub flat-append : {A B : Type 0} (f : A → List B) (l m : List A) → flatMap f (l ++ m) ≡ flatMap f l ++ flatMap f m
 unfolding flatMap

@@ -9,13 +9,14 @@ use native.Mathlib.Omega.{arith}
 use borrow.Author.Tests.{eqb-true, eqb-false}
 use lib.Dec.{eqb}
 use lib.ListN.{length, getD, set, length-set}
-use lib.Seq.{getD-set-same, getD-set-other}
+use lib.Seq.{length-take-le, getD-set-same, getD-set-other}
 use Rattle.sums.specs.declared.draws.Cursor.{Cursor}
 use Rattle.sums.specs.declared.draws.Draw.{Draw}
 use Rattle.sums.proofs.Tables.{getD-tab, up-length}
 use Rattle.sums.specs.Tables.{upTo}
 use Rattle.sums.specs.Cells.{Below}
-use Rattle.sums.specs.Draws.{drawn, exchange, exchangesFrom, cursorAt, Stepped, Picked}
+use Rattle.sums.specs.Draws.{drawn, exchange, exchangesFrom, pick, cursorAt, Stepped, Picked}
+use Rattle.sums.proofs.Belows.{below-any, below-take}
 
 again : (n l : ℕ) → suc n % l ≡ suc (n % l) % l
 again n l =
@@ -91,3 +92,27 @@ module _ {draws : List ℕ} {c₀ : Cursor} {count m : ℕ} {places : List ℕ} 
           let g : j ≡ i + drawn draws (n + i) % (m - i) = e ∙ rw (f, w .0) in
           (rw (add-one i, add-suc n i, g) (rw z at (h .steps n p .0)), rw (add-one i, add-suc n i) (w .1));
     }
+
+-- ---- picks: as many as asked for, each below m
+module _ (draws : List ℕ) (m : ℕ) where
+  exchanges-length : (n i c : ℕ) (places : List ℕ) → length (exchangesFrom draws m n i c places) ≡ length places
+  unfolding exchange exchangesFrom
+  exchanges-length n i zero places = refl
+  exchanges-length n i (suc c) places = exchanges-length (suc n) (suc i) c (exchange i (i + drawn draws n % (m - i)) places) ∙ simp length-set
+
+  exchanges-below : (n i c : ℕ) (places : List ℕ) → i + c ≤ m → Below m places → Below m (exchangesFrom draws m n i c places)
+  unfolding exchange exchangesFrom
+  exchanges-below n i zero places h b = b
+  exchanges-below n i (suc c) places h b =
+      let some : 0 < m = omega arith in
+      let j = i + drawn draws n % (m - i) in
+      exchanges-below (suc n) (suc i) c (exchange i j places) (omega arith)
+      (below-set m (set places i (getD places j 0)) j (getD places i 0) (below-set m places i (getD places j 0) b (below-any m places some b j)) (below-any m places some b i))
+
+  pub pick-length : (n c : ℕ) → c ≤ m → length (pick draws n c m) ≡ c
+  unfolding pick
+  pick-length n c h = length-take-le c (exchangesFrom draws m n 0 c (upTo m)) (omega (arith, exchanges-length n 0 c (upTo m), up-length m))
+
+  pub pick-below : (n c : ℕ) → c ≤ m → Below m (pick draws n c m)
+  unfolding pick
+  pick-below n c h = below-take m c (exchangesFrom draws m n 0 c (upTo m)) (exchanges-below n 0 c (upTo m) (omega arith) (below-up m))

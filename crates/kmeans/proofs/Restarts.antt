@@ -1,0 +1,185 @@
+-- A restart's parts put together, on lists. Assumes nothing.
+use Prim.Native.Nat.{ℕ, suc, _+_, _-_, _*_, _≤_, _<_}
+use mathlib.Core.Path.{_≡_, refl, ap, _∙_}
+use mathlib.Core.Bool.{true, false}
+use mathlib.Core.List.{List}
+use native.Mathlib.Numerals.{add-one}
+use native.Mathlib.Omega.{arith}
+use lib.Dec.{eqb}
+use lib.Ieee.{Float, lt}
+use lib.ListN.{length, take}
+use Rattle.sums.specs.declared.draws.Cursor.{Cursor}
+use Rattle.sums.specs.Rows.{Row, rowsAt}
+use Rattle.sums.specs.Tables.{upTo}
+use Rattle.sums.specs.Draws.{cursorAt, pick, exchangesFrom, Picked}
+use Rattle.kmeans.specs.declared.config.KMeansConfig.{KMeansConfig}
+use Rattle.kmeans.specs.declared.restart.Kept.{Kept}
+use Rattle.kmeans.specs.KMeans.{Run, target, trainingIf, trainingDraws, kmeans, firstFit, keepBetter, resultOf, fitOf, restartsFrom, restartsOf}
+use Rattle.kmeans.specs.Inside.{Room, Spaces, Workspace, Selected, Fitted, Restarted, Finished, Begun, Tried, Restarts, Ran, heldOf}
+
+-- the training rows have room, and the centroids that a restart is to fill
+pub trained : {dim rows aim k values own training centroids distances trialLabels places : ℕ} → Spaces dim rows aim k values own training centroids distances trialLabels places
+    → (block held totals at : ℕ) → 0 < block → held ≡ k * dim → totals ≡ k * dim → at ≡ k → Room dim aim k block training aim held aim totals at
+trained s block held totals at b h t a = record {
+  some-dim = s .some-dim;
+  small-dim = s .small-dim;
+  some-rows = omega (arith, s .some, s .enough);
+  few-rows = omega (arith, s .within, s .few-rows);
+  some = s .some;
+  few = s .few;
+  some-block = b;
+  training-cells = s .training-cells;
+  own-cells = refl;
+  centroid-cells = h;
+  distance-cells = refl;
+  total-cells = t;
+  at-cells = a;
+}
+
+pub restarted : (draws : List ℕ) (k dim block iterations m : ℕ) (training centroids₀ centroids : List Row) (places : List ℕ) (cursor next r : Cursor)
+    → m ≡ length training → Picked draws cursor k m next places → centroids₀ ≡ rowsAt training (take k places)
+    → Fitted draws k dim block training iterations centroids₀ next centroids r → Restarted draws k dim block training iterations cursor centroids r
+unfolding firstFit pick
+restarted draws k dim block iterations m training centroids₀ centroids places cursor next r e p g f = record {
+  inside = f .inside;
+  steps = λ n q.
+      let w = p .steps n q in
+      let x : centroids₀ ≡ rowsAt training (take k (exchangesFrom draws (length training) n 0 k (upTo (length training)))) = g ∙ rw (w .0, e) in
+      rw x at (f .steps (n + k) (w .1));
+}
+
+-- ---- the whole run
+
+-- with `aim` rows training, a call's slices leave room for the restarts
+pub spaces-of : {config : KMeansConfig} {dim rows k values centroids training own trainingOwn distances trialLabels places : ℕ}
+    → Workspace config dim rows k values centroids training own trainingOwn distances trialLabels places
+    → (aim k′ aim′ own′ training′ places′ : ℕ) → k ≤ aim → aim ≤ rows → k′ ≡ k → aim′ ≡ aim → own′ ≡ own → training′ ≡ aim * dim → places′ ≡ aim
+    → Spaces dim rows aim′ k′ values own′ training′ centroids distances trialLabels places′
+spaces-of w aim k′ aim′ own′ training′ places′ l h ek ea eo et ep =
+    rw (ek, ea, eo, et, ep)
+    (record {
+      some-dim = w .some-dim;
+      small-dim = w .small-dim;
+      some = w .some;
+      few = w .few;
+      enough = l;
+      within = h;
+      few-rows = w .few-rows;
+      value-cells = w .value-cells;
+      own-cells = w .own-cells;
+      training-cells = refl;
+      centroid-cells = w .centroid-cells;
+      distance-cells = w .distance-cells;
+      trial-cells = w .trial-cells;
+      place-cells = refl;
+    })
+
+-- the rows selected, gathered, and all restarts over them
+pub ran : (draws : List ℕ) (config : KMeansConfig) (k dim aim m : ℕ) (training rows : List Row) (cursor next : Cursor) (r : Kept) (places labels : List ℕ) (centroids : List Row)
+    → length rows ≡ m → aim ≡ target k (config .«max_points_per_centroid») m → Selected draws aim m cursor next places → training ≡ rowsAt rows (take aim places)
+    → Restarts draws config k dim training rows next r labels centroids → Ran draws config k dim rows cursor r labels centroids
+unfolding kmeans
+ran draws config k dim aim m training rows cursor next r places labels centroids e t s g f = record {
+  inside = f .inside;
+  steps = λ n p.
+      let w = s .steps n p in
+      let x : training ≡ rowsAt rows (trainingIf (eqb aim m) draws n aim m) = g ∙ rw (w .0) in
+      rw (e, ← t, ← x) (f .steps (n + trainingDraws (eqb aim m) aim) (w .1));
+}
+
+-- ---- the first restart
+pub begun : (draws : List ℕ) (k dim block : ℕ) (training rows : List Row) (iterations : ℕ) (cursor : Cursor) (labels : List ℕ) (centroids : List Row) (next : Cursor) (objective : Float)
+    → Restarted draws k dim block training iterations cursor centroids next → Finished rows centroids labels objective
+    → Begun draws k dim block training rows iterations cursor (record { objective = objective; restart = 0; cursor = next }) labels centroids
+unfolding resultOf
+begun draws k dim block training rows iterations cursor labels centroids next objective s f = record {
+  inside = s .inside;
+  steps = λ n p. let w = s .steps n p in (rw (← w .0, ← f .objective-is, ← f .labels-are), w .1);
+}
+
+-- ---- one restart more
+module _ (draws : List ℕ) (k dim block : ℕ) (training rows : List Row) (iterations number : ℕ) (best : Kept) (labels₀ labels : List ℕ) (centroids₀ centroids : List Row) (next : Cursor) (objective : Float)
+    (s : Restarted draws k dim block training iterations (best .cursor) centroids next) (f : Finished rows centroids labels objective) where
+  pub tried-better : lt objective (best .objective) ≡ true
+      → Tried draws k dim block training rows iterations number best (record { objective = objective; restart = number; cursor = next }) labels₀ labels centroids₀ centroids
+  unfolding keepBetter resultOf
+  tried-better h = record {
+    inside = s .inside;
+    steps = λ n p. let w = s .steps n p in (rw (← w .0, ← f .objective-is, h, ← f .labels-are), w .1);
+  }
+
+  pub tried-kept : lt objective (best .objective) ≡ false
+      → Tried draws k dim block training rows iterations number best (record { objective = best .objective; restart = best .restart; cursor = next }) labels₀ labels₀ centroids₀ centroids₀
+  unfolding keepBetter resultOf
+  tried-kept h = record {
+    inside = s .inside;
+    steps = λ n p. let w = s .steps n p in (rw (← w .0, ← f .objective-is, h), w .1);
+  }
+
+-- ---- the restarts in turn
+
+-- every slice is as long as it was
+pub record Sizes (labels₀ : List ℕ) (centroids₀ distances₀ : List Float) (trial-labels₀ places₀ counts₀ : List ℕ) (totals₀ : List Float) (at₀ : List ℕ) (trial₀ : List Float)
+    (labels : List ℕ) (centroids distances : List Float) (trial-labels places counts : List ℕ) (totals : List Float) (at : List ℕ) (trial : List Float) : Type 0 where
+  pub l-labels : length labels ≡ length labels₀
+  pub l-centroids : length centroids ≡ length centroids₀
+  pub l-distances : length distances ≡ length distances₀
+  pub l-trial-labels : length trial-labels ≡ length trial-labels₀
+  pub l-places : length places ≡ length places₀
+  pub l-counts : length counts ≡ length counts₀
+  pub l-totals : length totals ≡ length totals₀
+  pub l-at : length at ≡ length at₀
+  pub l-trial : length trial ≡ length trial₀
+
+-- so what was asked of their lengths still holds
+module _ {labels₀ : List ℕ} {centroids₀ distances₀ : List Float} {trial-labels₀ places₀ counts₀ : List ℕ} {totals₀ : List Float} {at₀ : List ℕ} {trial₀ : List Float}
+    {labels : List ℕ} {centroids distances : List Float} {trial-labels places counts : List ℕ} {totals : List Float} {at : List ℕ} {trial : List Float}
+    (s : Sizes labels₀ centroids₀ distances₀ trial-labels₀ places₀ counts₀ totals₀ at₀ trial₀ labels centroids distances trial-labels places counts totals at trial) where
+  pub still-spaces : {dim aim values own training : ℕ} → Spaces dim (length labels₀) aim (length counts₀) values own training (length centroids₀) (length distances₀) (length trial-labels₀) (length places₀)
+      → Spaces dim (length labels) aim (length counts) values own training (length centroids) (length distances) (length trial-labels) (length places)
+  still-spaces h = rw (s .l-labels, s .l-counts, s .l-centroids, s .l-distances, s .l-trial-labels, s .l-places) h
+
+  pub still-work : (dim block : ℕ) → (0 < block) × ((length totals₀ ≡ length counts₀ * dim) × ((length at₀ ≡ length counts₀) × (length trial₀ ≡ length counts₀ * dim)))
+      → (0 < block) × ((length totals ≡ length counts * dim) × ((length at ≡ length counts) × (length trial ≡ length counts * dim)))
+  still-work dim block h = rw (s .l-totals, s .l-counts, s .l-at, s .l-trial) h
+
+module _ (draws : List ℕ) (config : KMeansConfig) (k dim : ℕ) (training rows : List Row) (labels₀ : List ℕ) (centroids₀ : List Row) (best₀ : Kept) where
+  -- after m draws for the first restart, the restarts from `number` on are left
+  pub record Left (m : ℕ) (labels : List ℕ) (centroids : List Row) (best : Kept) (number : ℕ) : Type 0 where
+    pub made : ℕ
+    pub place : best .cursor ≡ cursorAt draws made
+    pub done : restartsFrom draws config k dim training rows (config .nredo - number) number (record { result = heldOf labels centroids best; made = made })
+        ≡ restartsFrom draws config k dim training rows (config .nredo - 1) 1 (record { result = heldOf labels₀ centroids₀ best₀; made = m })
+
+  pub record Trying (labels : List ℕ) (centroids : List Row) (best : Kept) (number : ℕ) : Type 0 where
+    pub inside : best .cursor .at < length draws
+    pub left : (m : ℕ) → best₀ .cursor ≡ cursorAt draws m → Left m labels centroids best number
+
+  pub trying-start : best₀ .cursor .at < length draws → Trying labels₀ centroids₀ best₀ 1
+  trying-start h = record { inside = h; left = λ m p. record { made = m; place = p; done = refl } }
+
+  module _ {labels : List ℕ} {centroids : List Row} {best : Kept} {number : ℕ} (h : Trying labels centroids best number) where
+    pub trying-step : (labels' : List ℕ) (centroids' : List Row) (r : Kept) → number < config .nredo
+        → Tried draws k dim (config .«decode_block_size») training rows (config .niter) number best r labels labels' centroids centroids' → Trying labels' centroids' r (number + 1)
+    unfolding restartsFrom fitOf
+    trying-step labels' centroids' r l t = record {
+      inside = t .inside;
+      left = λ m p.
+          let old = h .left m p in
+          let w = t .steps (old .made) (old .place) in
+          let z : config .nredo - number ≡ suc (config .nredo - suc number) = omega arith in
+          record { made = fitOf draws config k dim training rows (old .made) .made; place = w .1; done = rw (add-one number, w .0) (rw z at (old .done)) };
+    }
+
+    pub trying-end : (cursor : Cursor) → config .nredo ≤ number → Begun draws k dim (config .«decode_block_size») training rows (config .niter) cursor best₀ labels₀ centroids₀
+        → Restarts draws config k dim training rows cursor best labels centroids
+    unfolding restartsFrom restartsOf fitOf
+    trying-end cursor l b = record {
+      inside = h .inside;
+      steps = λ n p.
+          let w = b .steps n p in
+          let old = h .left (fitOf draws config k dim training rows n .made) (w .1) in
+          let z : config .nredo - number ≡ 0 = omega arith in
+          let x : record { result = heldOf labels centroids best; made = old .made } ≡ restartsOf draws config k dim training rows (config .nredo - 1) n = rw z at (rw (w .0) at (old .done)) in
+          (ap (λ (y : Run). y .result) x, old .place ∙ ap (λ (y : Run). cursorAt draws (y .made)) x);
+    }

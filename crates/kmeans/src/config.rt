@@ -1,0 +1,46 @@
+// The settings of a k-means run.
+ghost use mathlib.Core.Path.{_≡_};
+ghost use Rattle.kmeans.specs.KMeans.{usual, forGrouping};
+
+pub struct KMeansConfig {
+    pub niter: u32,
+    pub nredo: u32,
+    pub max_points_per_centroid: u32,
+    pub decode_block_size: u32,
+}
+
+impl KMeansConfig {
+    pub const ITERATIONS: u32 = 25;
+
+    pub const GROUPING_ITERATIONS: u32 = 100;
+
+    pub const RESTARTS: u32 = 1;
+
+    pub const MAX_POINTS_PER_CENTROID: u32 = 256;
+
+    pub const DECODE_BLOCK_SIZE: u32 = 32768;
+
+    // The source's defaults.
+    pub fn new() -> Self
+        ensures { λ r. ⌜ r ≡ usual ⌝ }
+    {
+        KMeansConfig {
+            niter: KMeansConfig::ITERATIONS,
+            nredo: KMeansConfig::RESTARTS,
+            max_points_per_centroid: KMeansConfig::MAX_POINTS_PER_CENTROID,
+            decode_block_size: KMeansConfig::DECODE_BLOCK_SIZE,
+        }
+    }
+
+    // What grouping splits with: more iterations, the rest as usual.
+    pub fn for_grouping() -> Self
+        ensures { λ r. ⌜ r ≡ forGrouping ⌝ }
+    {
+        KMeansConfig {
+            niter: KMeansConfig::GROUPING_ITERATIONS,
+            nredo: KMeansConfig::RESTARTS,
+            max_points_per_centroid: KMeansConfig::MAX_POINTS_PER_CENTROID,
+            decode_block_size: KMeansConfig::DECODE_BLOCK_SIZE,
+        }
+    }
+}

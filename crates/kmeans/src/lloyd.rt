@@ -1,0 +1,177 @@
+// Lloyd's iterations (the source's run_lloyd_iterations and the counting half of assign_points_for_update).
+ghost use mathlib.Core.Path.{_≡_};
+ghost use mathlib.Core.Bool.{true, _&&_};
+ghost use Prim.Native.Nat.{_*_, _≤_, _<_};
+ghost use lib.ListN.{length};
+ghost use Rattle.sums.specs.Rows.{rowsFrom};
+ghost use Rattle.sums.specs.Cells.{Below};
+ghost use Rattle.labels.specs.Inside.{normsOf};
+ghost use Rattle.kmeans.specs.Inside.{Summed, Filled, Room, PoolFor, Iteration, Fitted};
+use crate::update;
+use labels::nearest;
+use labels::pool;
+use sums::cells;
+use sums::draws::Cursor;
+use sums::math;
+
+// How many rows each cluster has, and their sums.
+fn accumulate(training: &[f32], dim: usize, labels: &[u16], counts: &mut [u16], totals: &mut [f32])
+    requires { ⌜ (length (now training) ≡ length (now labels) * dim) × (length (now totals) ≡ length (now counts) * dim) ⌝ }
+    requires { ⌜ Below (length (now counts)) (now labels) × (length (now labels) ≤ 65535) ⌝ }
+    ensures { λ _. ⌜ Summed dim (length (now (counts .entry))) (now (labels .entry)) (rowsFrom dim (length (now (labels .entry))) (now (training .entry))) (now (counts .exit)) (rowsFrom dim (length (now (counts .entry))) (now (totals .exit))) ⌝ }
+{
+    cells::fill(counts, 0);
+    cells::clear(totals);
+    let mut i = 0usize;
+    while i < labels.len() {
+        let c = cells::wide(labels[i]);
+        counts[c] = counts[c] + 1;
+        let at = i * dim;
+        let end = at + dim;
+        let to = c * dim;
+        let to_end = to + dim;
+        math::add_row(&mut totals[to..to_end], &training[at..end]);
+        i += 1;
+    }
+}
+
+fn all_filled(counts: &[u16]) -> bool
+    ensures { λ r. ⌜ (r ≡ true → Filled (now (counts .entry))) ⌝ }
+{
+    let mut i = 0usize;
+    while i < counts.len() {
+        if counts[i] == 0 {
+            return false;
+        }
+        i += 1;
+    }
+    true
+}
+
+pub struct Iterated {
+    pub settled: bool,
+    pub cursor: Cursor,
+}
+
+// Nothing more would change: the labels are those of the iteration before, and no cluster is empty.
+fn is_settled(again: bool, same: bool, filled: bool) -> bool
+    ensures { λ r. ⌜ r ≡ (again && same && filled) ⌝ }
+{
+    if again {
+        if same {
+            return filled;
+        }
+    }
+    false
+}
+
+// The positions that empty clusters are filled from, in front of `at`; where no cluster is empty none are gathered.
+fn pool_for(filled: bool, distances: &[f32], block: usize, at: &mut [u16]) -> usize
+    requires { ⌜ (0 < length (now at)) × ((length (now distances) ≤ 65536) × (0 < block)) ⌝ }
+    ensures { λ r. ⌜ PoolFor filled (now (distances .entry)) block (length (now (at .entry))) r (now (at .exit)) ⌝ }
+{
+    if filled {
+        return 0;
+    }
+    let cap = at.len();
+    pool::gather_pool(distances, block, at, cap)
+}
+
+// One iteration; where it would change nothing, it stops before the update.
+fn run_iteration(
+    training: &[f32],
+    own: &[f32],
+    dim: usize,
+    block: usize,
+    draws: &[u32],
+    cursor: Cursor,
+    again: bool,
+    centroids: &mut [f32],
+    labels: &mut [u16],
+    distances: &mut [f32],
+    counts: &mut [u16],
+    totals: &mut [f32],
+    at: &mut [u16],
+) -> Iterated
+    requires { ⌜ Room dim (length (now labels)) (length (now counts)) block (length (now training)) (length (now own)) (length (now centroids)) (length (now distances)) (length (now totals)) (length (now at)) ⌝ }
+    requires { ⌜ now own ≡ normsOf (rowsFrom dim (length (now labels)) (now training)) ⌝ }
+    requires { ⌜ cursor .at < length (now draws) ⌝ }
+    ensures { λ r. ⌜ Iteration (now (draws .entry)) (length (now (counts .entry))) dim block (rowsFrom dim (length (now (labels .entry))) (now (training .entry))) (rowsFrom dim (length (now (counts .entry))) (now (centroids .entry))) (rowsFrom dim (length (now (counts .entry))) (now (centroids .exit))) (now (labels .entry)) (now (labels .exit)) again cursor r ⌝ }
+{
+    let k = counts.len();
+    let rows = labels.len();
+    let same = nearest::assign_rows(training, own, dim, centroids, k, labels, distances);
+    accumulate(training, dim, labels, counts, totals);
+    let filled = all_filled(counts);
+    if is_settled(again, same, filled) {
+        return Iterated {
+            settled: true,
+            cursor,
+        };
+    }
+    let n = pool_for(filled, distances, block, at);
+    let next = update::update_centroids(
+        centroids,
+        totals,
+        counts,
+        training,
+        dim,
+        rows,
+        &at[..n],
+        draws,
+        cursor,
+    );
+    Iterated {
+        settled: false,
+        cursor: next,
+    }
+}
+
+// All the iterations asked for; those after a settled one would change nothing, and are not run.
+pub fn run_lloyd_iterations(
+    iterations: usize,
+    training: &[f32],
+    own: &[f32],
+    dim: usize,
+    block: usize,
+    draws: &[u32],
+    cursor: Cursor,
+    centroids: &mut [f32],
+    labels: &mut [u16],
+    distances: &mut [f32],
+    counts: &mut [u16],
+    totals: &mut [f32],
+    at: &mut [u16],
+) -> Cursor
+    requires { ⌜ Room dim (length (now labels)) (length (now counts)) block (length (now training)) (length (now own)) (length (now centroids)) (length (now distances)) (length (now totals)) (length (now at)) ⌝ }
+    requires { ⌜ now own ≡ normsOf (rowsFrom dim (length (now labels)) (now training)) ⌝ }
+    requires { ⌜ cursor .at < length (now draws) ⌝ }
+    ensures { λ r. ⌜ Fitted (now (draws .entry)) (length (now (counts .entry))) dim block (rowsFrom dim (length (now (labels .entry))) (now (training .entry))) iterations (rowsFrom dim (length (now (counts .entry))) (now (centroids .entry))) cursor (rowsFrom dim (length (now (counts .entry))) (now (centroids .exit))) r ⌝ }
+{
+    let mut place = cursor;
+    let mut i = 0usize;
+    while i < iterations {
+        let step = run_iteration(
+            training,
+            own,
+            dim,
+            block,
+            draws,
+            place,
+            0 < i,
+            centroids,
+            labels,
+            distances,
+            counts,
+            totals,
+            at,
+        );
+        let next = step.cursor;
+        if step.settled {
+            return next;
+        }
+        place = next;
+        i += 1;
+    }
+    place
+}

@@ -1,0 +1,339 @@
+// Restarts, and the one that is kept (the source's run_kmeans_flat).
+ghost use mathlib.Core.Path.{_≡_};
+ghost use Prim.Native.Nat.{_+_, _*_, _≤_, _<_};
+ghost use lib.ListN.{length};
+ghost use Rattle.sums.specs.Rows.{rowsFrom};
+ghost use Rattle.labels.specs.Inside.{normsOf, Assignable};
+ghost use Rattle.kmeans.specs.Inside.{Room, Restarted, Finished, Spaces, Begun, Tried, Restarts, Workspace, Ran};
+use crate::config::KMeansConfig;
+use crate::lloyd;
+use crate::objective;
+use crate::training;
+use labels::nearest;
+use sums::cells;
+use sums::draws;
+use sums::draws::Cursor;
+
+// The restart kept so far, and the place in the draws.
+pub struct Kept {
+    pub objective: f64,
+    pub restart: u32,
+    pub cursor: Cursor,
+}
+
+// One restart: k training positions picked as centroids, in picked order, and the iterations.
+fn run_restart(
+    iterations: usize,
+    training: &[f32],
+    own: &[f32],
+    dim: usize,
+    block: usize,
+    draws: &[u32],
+    cursor: Cursor,
+    places: &mut [u16],
+    centroids: &mut [f32],
+    labels: &mut [u16],
+    distances: &mut [f32],
+    counts: &mut [u16],
+    totals: &mut [f32],
+    at: &mut [u16],
+) -> Cursor
+    requires { ⌜ Room dim (length (now labels)) (length (now counts)) block (length (now training)) (length (now own)) (length (now centroids)) (length (now distances)) (length (now totals)) (length (now at)) ⌝ }
+    requires { ⌜ now own ≡ normsOf (rowsFrom dim (length (now labels)) (now training)) ⌝ }
+    requires { ⌜ (cursor .at < length (now draws)) × ((length (now places) ≡ length (now labels)) × (length (now counts) ≤ length (now labels))) ⌝ }
+    ensures { λ r. ⌜ Restarted (now (draws .entry)) (length (now (counts .entry))) dim block (rowsFrom dim (length (now (labels .entry))) (now (training .entry))) iterations cursor (rowsFrom dim (length (now (counts .entry))) (now (centroids .exit))) r ⌝ }
+{
+    let k = counts.len();
+    let rows = places.len();
+    let next = draws::pick(draws, cursor, places, k);
+    training::gather_rows(training, dim, rows, &places[..k], centroids);
+    lloyd::run_lloyd_iterations(
+        iterations,
+        training,
+        own,
+        dim,
+        block,
+        draws,
+        next,
+        centroids,
+        labels,
+        distances,
+        counts,
+        totals,
+        at,
+    )
+}
+
+// All rows labelled by the centroids, and the objective.
+fn finish_restart(
+    values: &[f32],
+    own: &[f32],
+    dim: usize,
+    centroids: &[f32],
+    k: usize,
+    labels: &mut [u16],
+    distances: &mut [f32],
+) -> f64
+    requires { ⌜ Assignable dim k (now values) (now own) (now centroids) (length (now labels)) (length (now distances)) × (0 < k) ⌝ }
+    ensures { λ r. ⌜ Finished (rowsFrom dim (length (now (labels .entry))) (now (values .entry))) (rowsFrom dim k (now (centroids .entry))) (now (labels .exit)) r ⌝ }
+{
+    nearest::assign_rows(values, own, dim, centroids, k, labels, distances);
+    objective::compute_objective(values, dim, centroids, k, labels)
+}
+
+// The first restart: it is kept so far.
+fn first_restart(
+    iterations: usize,
+    block: usize,
+    dim: usize,
+    values: &[f32],
+    own: &[f32],
+    training: &[f32],
+    training_own: &[f32],
+    draws: &[u32],
+    cursor: Cursor,
+    labels: &mut [u16],
+    centroids: &mut [f32],
+    distances: &mut [f32],
+    trial_labels: &mut [u16],
+    places: &mut [u16],
+    counts: &mut [u16],
+    totals: &mut [f32],
+    at: &mut [u16],
+) -> Kept
+    requires { ⌜ Spaces dim (length (now labels)) (length (now «training_own»)) (length (now counts)) (length (now values)) (length (now own)) (length (now training)) (length (now centroids)) (length (now distances)) (length (now «trial_labels»)) (length (now places)) ⌝ }
+    requires { ⌜ (0 < block) × ((length (now totals) ≡ length (now counts) * dim) × (length (now at) ≡ length (now counts))) ⌝ }
+    requires { ⌜ (now own ≡ normsOf (rowsFrom dim (length (now labels)) (now values))) × (now «training_own» ≡ normsOf (rowsFrom dim (length (now «training_own»)) (now training))) ⌝ }
+    requires { ⌜ cursor .at < length (now draws) ⌝ }
+    ensures { λ r. ⌜ Begun (now (draws .entry)) (length (now (counts .entry))) dim block (rowsFrom dim (length (now («training_own» .entry))) (now (training .entry))) (rowsFrom dim (length (now (labels .entry))) (now (values .entry))) iterations cursor r (now (labels .exit)) (rowsFrom dim (length (now (counts .entry))) (now (centroids .exit))) ⌝ }
+{
+    let k = counts.len();
+    let aim = training_own.len();
+    let next = run_restart(
+        iterations,
+        training,
+        training_own,
+        dim,
+        block,
+        draws,
+        cursor,
+        places,
+        centroids,
+        &mut trial_labels[..aim],
+        &mut distances[..aim],
+        counts,
+        totals,
+        at,
+    );
+    let objective = finish_restart(values, own, dim, centroids, k, labels, distances);
+    Kept {
+        objective,
+        restart: 0,
+        cursor: next,
+    }
+}
+
+// One restart more, kept where its objective is strictly smaller.
+fn try_restart(
+    number: u32,
+    best: Kept,
+    iterations: usize,
+    block: usize,
+    dim: usize,
+    values: &[f32],
+    own: &[f32],
+    training: &[f32],
+    training_own: &[f32],
+    draws: &[u32],
+    labels: &mut [u16],
+    centroids: &mut [f32],
+    distances: &mut [f32],
+    trial_labels: &mut [u16],
+    places: &mut [u16],
+    counts: &mut [u16],
+    totals: &mut [f32],
+    at: &mut [u16],
+    trial: &mut [f32],
+) -> Kept
+    requires { ⌜ Spaces dim (length (now labels)) (length (now «training_own»)) (length (now counts)) (length (now values)) (length (now own)) (length (now training)) (length (now centroids)) (length (now distances)) (length (now «trial_labels»)) (length (now places)) ⌝ }
+    requires { ⌜ (0 < block) × ((length (now totals) ≡ length (now counts) * dim) × ((length (now at) ≡ length (now counts)) × (length (now trial) ≡ length (now counts) * dim))) ⌝ }
+    requires { ⌜ (now own ≡ normsOf (rowsFrom dim (length (now labels)) (now values))) × (now «training_own» ≡ normsOf (rowsFrom dim (length (now «training_own»)) (now training))) ⌝ }
+    requires { ⌜ best .cursor .at < length (now draws) ⌝ }
+    ensures { λ r. ⌜ Tried (now (draws .entry)) (length (now (counts .entry))) dim block (rowsFrom dim (length (now («training_own» .entry))) (now (training .entry))) (rowsFrom dim (length (now (labels .entry))) (now (values .entry))) iterations number best r (now (labels .entry)) (now (labels .exit)) (rowsFrom dim (length (now (counts .entry))) (now (centroids .entry))) (rowsFrom dim (length (now (counts .entry))) (now (centroids .exit))) ⌝ }
+{
+    let k = counts.len();
+    let aim = training_own.len();
+    let from = best.cursor;
+    let next = run_restart(
+        iterations,
+        training,
+        training_own,
+        dim,
+        block,
+        draws,
+        from,
+        places,
+        trial,
+        &mut trial_labels[..aim],
+        &mut distances[..aim],
+        counts,
+        totals,
+        at,
+    );
+    let objective = finish_restart(values, own, dim, trial, k, trial_labels, distances);
+    if objective < best.objective {
+        copy_labels(labels, trial_labels);
+        cells::copy(centroids, trial);
+        return Kept {
+            objective,
+            restart: number,
+            cursor: next,
+        };
+    }
+    Kept {
+        objective: best.objective,
+        restart: best.restart,
+        cursor: next,
+    }
+}
+
+fn copy_labels(dst: &mut [u16], src: &[u16])
+    requires { ⌜ length (now dst) ≡ length (now src) ⌝ }
+    ensures { λ _. ⌜ now (dst .exit) ≡ now (src .entry) ⌝ }
+{
+    let mut i = 0usize;
+    while i < dst.len() {
+        dst[i] = src[i];
+        i += 1;
+    }
+}
+
+// All restarts: the first is kept until one has a strictly smaller objective.
+fn run_restarts(
+    config: KMeansConfig,
+    dim: usize,
+    values: &[f32],
+    own: &[f32],
+    training: &[f32],
+    training_own: &[f32],
+    draws: &[u32],
+    cursor: Cursor,
+    labels: &mut [u16],
+    centroids: &mut [f32],
+    distances: &mut [f32],
+    trial_labels: &mut [u16],
+    places: &mut [u16],
+    counts: &mut [u16],
+    totals: &mut [f32],
+    at: &mut [u16],
+    trial: &mut [f32],
+) -> Kept
+    requires { ⌜ Spaces dim (length (now labels)) (length (now «training_own»)) (length (now counts)) (length (now values)) (length (now own)) (length (now training)) (length (now centroids)) (length (now distances)) (length (now «trial_labels»)) (length (now places)) ⌝ }
+    requires { ⌜ (0 < config .«decode_block_size») × ((length (now totals) ≡ length (now counts) * dim) × ((length (now at) ≡ length (now counts)) × (length (now trial) ≡ length (now counts) * dim))) ⌝ }
+    requires { ⌜ (now own ≡ normsOf (rowsFrom dim (length (now labels)) (now values))) × (now «training_own» ≡ normsOf (rowsFrom dim (length (now «training_own»)) (now training))) ⌝ }
+    requires { ⌜ cursor .at < length (now draws) ⌝ }
+    ensures { λ r. ⌜ Restarts (now (draws .entry)) config (length (now (counts .entry))) dim (rowsFrom dim (length (now («training_own» .entry))) (now (training .entry))) (rowsFrom dim (length (now (labels .entry))) (now (values .entry))) cursor r (now (labels .exit)) (rowsFrom dim (length (now (counts .entry))) (now (centroids .exit))) ⌝ }
+{
+    let iterations = config.niter as usize;
+    let block = config.decode_block_size as usize;
+    let mut best = first_restart(
+        iterations,
+        block,
+        dim,
+        values,
+        own,
+        training,
+        training_own,
+        draws,
+        cursor,
+        labels,
+        centroids,
+        distances,
+        trial_labels,
+        places,
+        counts,
+        totals,
+        at,
+    );
+    let mut number = 1u32;
+    while number < config.nredo {
+        let next = try_restart(
+            number,
+            best,
+            iterations,
+            block,
+            dim,
+            values,
+            own,
+            training,
+            training_own,
+            draws,
+            labels,
+            centroids,
+            distances,
+            trial_labels,
+            places,
+            counts,
+            totals,
+            at,
+            trial,
+        );
+        best = next;
+        number += 1;
+    }
+    best
+}
+
+// K-means of rows that are lent, from a cursor on; every slice is of its length, and what the work slices hold afterwards is not said.
+pub fn run_kmeans_flat(
+    config: KMeansConfig,
+    k: usize,
+    dim: usize,
+    draws: &[u32],
+    cursor: Cursor,
+    values: &[f32],
+    labels: &mut [u16],
+    centroids: &mut [f32],
+    training: &mut [f32],
+    own: &mut [f32],
+    training_own: &mut [f32],
+    distances: &mut [f32],
+    trial_labels: &mut [u16],
+    places: &mut [u16],
+) -> Kept
+    requires { ⌜ Workspace config dim (length (now labels)) k (length (now values)) (length (now centroids)) (length (now training)) (length (now own)) (length (now «training_own»)) (length (now distances)) (length (now «trial_labels»)) (length (now places)) ⌝ }
+    requires { ⌜ cursor .at < length (now draws) ⌝ }
+    ensures { λ r. ⌜ Ran (now (draws .entry)) config k dim (rowsFrom dim (length (now (labels .entry))) (now (values .entry))) cursor r (now (labels .exit)) (rowsFrom dim k (now (centroids .exit))) ⌝ }
+{
+    let rows = labels.len();
+    let aim = training::target(k, rows, config.max_points_per_centroid as usize);
+    let next = training::select_training_indices(draws, cursor, places, aim);
+    let cells = aim * dim;
+    training::gather_rows(values, dim, rows, &places[..aim], &mut training[..cells]);
+    nearest::compute_norms(values, dim, own);
+    nearest::compute_norms(&training[..cells], dim, &mut training_own[..aim]);
+    let width = k * dim;
+    let mut counts = [0u16; 64];
+    let mut totals = [0.0f32; 4096];
+    let mut at = [0u16; 64];
+    let mut trial = [0.0f32; 4096];
+    run_restarts(
+        config,
+        dim,
+        values,
+        own,
+        &training[..cells],
+        &training_own[..aim],
+        draws,
+        next,
+        labels,
+        centroids,
+        distances,
+        trial_labels,
+        &mut places[..aim],
+        &mut counts[..k],
+        &mut totals[..width],
+        &mut at[..k],
+        &mut trial[..width],
+    )
+}
