@@ -20,7 +20,12 @@ use Rattle.sums.proofs.Refusing.{both, within-is, passed}
 use Rattle.closure.specs.Call.{closureCall, Gives}
 use Rattle.closure.specs.declared.ClosureAnswer.{ClosureAnswer}
 use Rattle.closure.specs.declared.ClosureAnswer.the-variants.{Listed, Refused}
-use Rattle.bench.specs.Exports.{codeOf, bytesOf, Gave, labelRefusal, labelOf, labelCall, closureRefusal, closureBytesCall, closureWritten}
+use Rattle.kmeans.specs.KMeans.{Result}
+use Rattle.kmeans.specs.Call.{Figures, figures, Gives as KMeansGives}
+use Rattle.kmeans.specs.declared.call.KMeansAnswer.{KMeansAnswer}
+use Rattle.kmeans.specs.declared.call.KMeansAnswer.the-variants.{Accepted, Refused as KMeansAnswer·Refused}
+use Rattle.sums.specs.Sums.{zero32}
+use Rattle.bench.specs.Exports.{codeOf, bytesOf, Gave, labelRefusal, labelOf, labelCall, closureRefusal, closureBytesCall, closureWritten, objectiveOf, restartOf, KMeansGave}
 use Rattle.sums.proofs.Fronts.{flat-append}
 
 -- ---- cells as bytes
@@ -175,3 +180,35 @@ pub one-label : (dim k : ℕ) (row centroids : List ℕ) (r : LabelAnswer) (cell
 unfolding labelOf
 one-label dim k row centroids r cells some small one few g =
     one-row dim k (floatsFrom dim row) (floatsFrom (k * dim) centroids) r cells some small one few (floats-length dim row) (floats-length (k * dim) centroids) g
+
+-- ---- k-means: from the enum to the number and the figures
+module _ (labelCells centroidCells : ℕ) (r : KMeansAnswer) (labels : List ℕ) (centroids : List Float) where
+  pub kmeans-accepted : (answer : Answer Result) (o : Float) (n : ℕ) → KMeansGives answer labelCells centroidCells r labels centroids → r ≡ Accepted o n
+      → KMeansGave answer labelCells centroidCells 0 labels centroids o n
+  unfolding codeOf objectiveOf restartOf onAccepted
+  kmeans-accepted (accepted a) o n g e =
+      let is : accepted (record { objective = o; restart = n }) ≡ accepted (figures a) = rw e at (g .result) in
+      let same : _≡_ {A = Figures} (record { objective = o; restart = n }) (figures a) = cc in
+      record {
+        code = refl;
+        labelled = g .labelled;
+        centred = g .centred;
+        objective-is = ap (λ (f : Figures). f .objective) same;
+        restart-is = ap (λ (f : Figures). f .restart) same;
+      }
+  kmeans-accepted (refused number) o n g e =
+      let is : _≡_ {A = Answer Figures} (accepted (record { objective = o; restart = n })) (refused number) = rw e at (g .result) in
+      let z : _≡_ {A = ℕ} 0 1 = cc in
+      absurd (omega arith)
+
+  pub kmeans-refused : (answer : Answer Result) (n : ℕ) → KMeansGives answer labelCells centroidCells r labels centroids → r ≡ KMeansAnswer·Refused n
+      → KMeansGave answer labelCells centroidCells n labels centroids zero32 0
+  unfolding codeOf objectiveOf restartOf onAccepted
+  kmeans-refused (accepted a) n g e =
+      let is : _≡_ {A = Answer Figures} (refused n) (accepted (figures a)) = rw e at (g .result) in
+      let z : _≡_ {A = ℕ} 0 1 = cc in
+      absurd (omega arith)
+  kmeans-refused (refused number) n g e =
+      let is : _≡_ {A = Answer Figures} (refused n) (refused number) = rw e at (g .result) in
+      let same : n ≡ number = cc in
+      record { code = same; labelled = g .labelled; centred = g .centred; objective-is = refl; restart-is = refl }

@@ -1,16 +1,19 @@
 -- 01, 'What is ported': the functions that the bench host calls, on numbers and little-endian bytes. Lengths are counts of bytes.
 use mathlib.Core.Path.{_≡_}
 use mathlib.Core.Bool.{_&&_}
-use mathlib.Core.List.{List, [], _∷_, _++_, flatMap}
+use mathlib.Core.List.{List, [], _∷_, _++_, flatMap, flatten}
 use Prim.Native.Nat.{ℕ, _+_, _*_}
 use lib.Dec.{eqb}
 use lib.ListN.{length, replicate}
 use lib.Ieee.{Float}
 use Rattle.sums.specs.Rows.{rowsFrom}
-use Rattle.sums.specs.Refusals.{Answer, accepted, refused, within, lowest, unless, padded, blankCell}
+use Rattle.sums.specs.Sums.{zero32}
+use Rattle.sums.specs.Refusals.{Answer, accepted, refused, within, lowest, unless, padded, cellsOf, blankCell}
 use Rattle.words.specs.Bytes.{floatsFrom, bytes16}
 use Rattle.labels.specs.Label.{nearest}
 use Rattle.closure.specs.Call.{closureCall}
+use Rattle.kmeans.specs.declared.config.KMeansConfig.{KMeansConfig}
+use Rattle.kmeans.specs.KMeans.{Result}
 
 -- what is returned: 0, or the refusal's number
 unfoldable pub codeOf : {A : Type 0} → Answer A → ℕ
@@ -55,3 +58,24 @@ closureBytesCall epsilon replicas dim count vector centroids result =
 -- the cells, and then how many are listed
 unfoldable pub closureWritten : ℕ → List ℕ → List ℕ
 closureWritten count indices = flatMap bytes16 (padded blankCell count indices) ++ bytes16 (length indices)
+
+-- ---- k-means over typed slices
+abbrev pub configOf : ℕ → ℕ → ℕ → ℕ → KMeansConfig
+configOf iterations restarts points block =
+    record { niter = iterations; nredo = restarts; «max_points_per_centroid» = points; «decode_block_size» = block }
+
+-- the objective and the number of the restart kept, blank after a refusal
+unfoldable pub objectiveOf : Answer Result → Float
+objectiveOf (accepted a) = a .objective
+objectiveOf (refused number) = zero32
+
+unfoldable pub restartOf : Answer Result → ℕ
+restartOf (accepted a) = a .restart
+restartOf (refused number) = 0
+
+pub record KMeansGave (answer : Answer Result) (labelCells centroidCells r : ℕ) (labels : List ℕ) (centroids : List Float) (objective : Float) (restart : ℕ) : Type 0 where
+  pub code : r ≡ codeOf answer
+  pub labelled : labels ≡ cellsOf blankCell labelCells (λ (a : Result). a .labels) answer
+  pub centred : centroids ≡ cellsOf zero32 centroidCells (λ (a : Result). flatten (a .centroids)) answer
+  pub objective-is : objective ≡ objectiveOf answer
+  pub restart-is : restart ≡ restartOf answer

@@ -8,8 +8,11 @@ ghost use Rattle.sums.specs.Refusals.{cellsOf, blankCell};
 ghost use Rattle.words.specs.Bytes.{floatsFrom, bytes16};
 ghost use Rattle.labels.specs.Call.{labelCall as Call·labelCall};
 ghost use Rattle.closure.specs.Call.{closureCall};
-ghost use Rattle.bench.specs.Exports.{codeOf, Gave, labelRefusal, labelCall, labelOf, closureRefusal, closureBytesCall, closureWritten};
+ghost use Rattle.kmeans.specs.Call.{kmeansCall, lentOf, Cleared};
+ghost use Rattle.bench.specs.Exports.{codeOf, Gave, labelRefusal, labelCall, labelOf, closureRefusal, closureBytesCall, closureWritten, configOf, KMeansGave};
 use closure::ClosureAnswer;
+use kmeans::call::KMeansAnswer;
+use kmeans::config::KMeansConfig;
 use labels::label;
 use labels::label::LabelAnswer;
 
@@ -228,5 +231,70 @@ pub extern "C" fn families_label_rows(
     match answer {
         LabelAnswer::Labelled => 0,
         LabelAnswer::Refused(number) => number,
+    }
+}
+
+// K-means over typed slices: 0, or the refusal's number; the objective and the restart kept are +0.0 and 0 after a refusal.
+#[no_mangle]
+pub extern "C" fn families_kmeans(
+    rows: u32,
+    dim: u32,
+    k: u32,
+    iterations: u32,
+    restarts: u32,
+    points: u32,
+    block: u32,
+    draws: &[u32],
+    values: &[f32],
+    labels: &mut [u16],
+    centroids: &mut [f32],
+    objective: &mut f64,
+    restart: &mut u32,
+    training: &mut [f32],
+    own: &mut [f32],
+    training_own: &mut [f32],
+    distances: &mut [f32],
+    trial_labels: &mut [u16],
+    places: &mut [u16],
+) -> u32
+    ensures { λ r. ⌜ KMeansGave (kmeansCall rows dim k (configOf iterations restarts points block) (now (draws .entry)) (now (values .entry)) (lentOf (length (now (labels .entry))) (length (now (centroids .entry))) (length (now (training .entry))) (length (now (own .entry))) (length (now («training_own» .entry))) (length (now (distances .entry))) (length (now («trial_labels» .entry))) (length (now (places .entry))))) (length (now (labels .entry))) (length (now (centroids .entry))) r (now (labels .exit)) (now (centroids .exit)) (now (objective .exit)) (now (restart .exit)) ⌝ }
+    ensures { λ r. ⌜ Cleared (lentOf (length (now (labels .entry))) (length (now (centroids .entry))) (length (now (training .entry))) (length (now (own .entry))) (length (now («training_own» .entry))) (length (now (distances .entry))) (length (now («trial_labels» .entry))) (length (now (places .entry)))) (now (training .exit)) (now (own .exit)) (now («training_own» .exit)) (now (distances .exit)) (now («trial_labels» .exit)) (now (places .exit)) ⌝ }
+{
+    let config = KMeansConfig {
+        niter: iterations,
+        nredo: restarts,
+        max_points_per_centroid: points,
+        decode_block_size: block,
+    };
+    let answer = kmeans::call::run_kmeans_with_config(
+        rows,
+        dim,
+        k,
+        config,
+        draws,
+        values,
+        labels,
+        centroids,
+        training,
+        own,
+        training_own,
+        distances,
+        trial_labels,
+        places,
+    );
+    match answer {
+        KMeansAnswer::Accepted {
+            objective: o,
+            restart: r,
+        } => {
+            *objective = o;
+            *restart = r;
+            0
+        }
+        KMeansAnswer::Refused(number) => {
+            *objective = 0.0f64;
+            *restart = 0;
+            number
+        }
     }
 }

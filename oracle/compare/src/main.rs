@@ -4,11 +4,11 @@
 
 use std::process::exit;
 
-use families::exported;
-use oracle::cases::{
-    BytesOutcome, Case, ClosureBytesCase, LabelBytesCase, LabelCase, LabelOutcome,
-};
-use oracle::cases::{STALE_BYTE, STALE_CELL};
+use families::exported::{self, KMeansWork};
+use oracle::calls::KMeansAccepted;
+use oracle::cases::{BytesOutcome, Case, ClosureBytesCase, KMeansCase, KMeansOutcome};
+use oracle::cases::{LabelBytesCase, LabelCase, LabelOutcome};
+use oracle::cases::{STALE_BYTE, STALE_CELL, STALE_FLOAT};
 use oracle::refusal::Refusal;
 use oracle::slips::Slip;
 
@@ -56,6 +56,67 @@ impl Compared for LabelCase {
             answer: answer(number, ()),
             labels,
         }
+    }
+}
+
+impl Compared for KMeansCase {
+    fn proved(&self) -> KMeansOutcome {
+        let mut work = self.work();
+        let mut labels = vec![STALE_CELL; self.label_cells];
+        let mut centroids = vec![STALE_FLOAT; self.centroid_cells];
+        let numbers = &self.numbers;
+        let told = exported::kmeans(
+            exported::KMeansNumbers {
+                rows: numbers.rows,
+                dim: numbers.dim,
+                k: numbers.k,
+                iterations: numbers.iterations,
+                restarts: numbers.restarts,
+                points_per_centroid: numbers.points_per_centroid,
+                block: numbers.block,
+            },
+            &self.draws,
+            &self.values,
+            &mut labels,
+            &mut centroids,
+            &mut work,
+        );
+        assert!(work.is_zero(), "work slices end all zero");
+        KMeansOutcome::new(
+            answer(
+                told.number,
+                KMeansAccepted {
+                    objective: told.objective,
+                    restart: told.restart,
+                },
+            ),
+            labels,
+            &centroids,
+        )
+    }
+}
+
+/// Work slices full of stale values; one of them is too long where the case says that they don't fit.
+trait Worked {
+    fn work(&self) -> KMeansWork;
+}
+
+impl Worked for KMeansCase {
+    fn work(&self) -> KMeansWork {
+        let rows = self.numbers.rows.min(5_000) as usize;
+        let dim = self.numbers.dim.min(100) as usize;
+        let mut work = KMeansWork::new(rows, dim, STALE_FLOAT, STALE_CELL);
+        if !self.work_fits {
+            match rows % 6 {
+                0 => work.training.push(STALE_FLOAT),
+                1 => work.own.push(STALE_FLOAT),
+                2 => work.training_own.push(STALE_FLOAT),
+                3 => work.distances.push(STALE_FLOAT),
+                4 => work.trial_labels.push(STALE_CELL),
+                _ => work.places.push(STALE_CELL),
+            }
+        }
+        work
     }
 }
 
@@ -121,6 +182,7 @@ fn main() {
         compare::<LabelBytesCase>(seed, 30_000 * times),
         compare::<LabelCase>(seed, 25_000 * times),
         compare::<ClosureBytesCase>(seed, 55_000 * times),
+        compare::<KMeansCase>(seed, 6_000 * times),
     ];
     if tallies.iter().any(|tally| tally.failed > 0) {
         exit(1);
