@@ -1,4 +1,4 @@
--- The laws that the functions' proofs lean on.
+-- The laws that the proofs of this layer share, and what k-means promises.
 pub mod Updates
 pub mod Summing
 pub mod Sorts
@@ -6,3 +6,5 @@ pub mod Selects
 pub mod Iterations
 pub mod Restarts
 pub mod Calls
+pub mod Clusters
+pub mod Promises

@@ -4,7 +4,7 @@
 
 use std::time::Instant;
 
-use families::exported;
+use families::exported::{self, KMeansNumbers, KMeansWork};
 use oracle::calls;
 use oracle::random::Random;
 use oracle::slips::Slip;
@@ -36,7 +36,7 @@ fn side_by_side(rounds: usize, mut ours: impl FnMut(), mut theirs: impl FnMut())
 
 fn values(random: &mut Random, count: usize) -> Vec<f32> {
     (0..count)
-        .map(|_| random.below(2_000) as f32 / 1_000.0 - 1.0)
+        .map(|_| random.next_u32() as f32 / (1u32 << 31) as f32 - 1.0)
         .collect()
 }
 
@@ -75,11 +75,101 @@ fn labelling(rounds: usize, dim: usize, k: usize) {
     );
 }
 
+/// What the rows of a k-means look like.
+#[derive(Clone, Copy, Debug)]
+enum Rows {
+    /// around k centres
+    Clustered,
+    /// drawn from everywhere alike
+    Shapeless,
+    /// eight rows again and again: with more clusters than that some are refilled in every iteration, and it never settles
+    Repeating,
+}
+
+fn rows_of(random: &mut Random, dim: usize, k: usize, kind: Rows) -> Vec<f32> {
+    match kind {
+        Rows::Clustered => (),
+        Rows::Shapeless => return values(random, ROWS * dim),
+        Rows::Repeating => return values(random, 8 * dim).repeat(ROWS / 8),
+    }
+    let centres = values(random, k * dim);
+    (0..ROWS)
+        .flat_map(|row| {
+            let centre = row % k * dim;
+            (0..dim)
+                .map(|d| 8.0 * centres[centre + d] + values(random, 1)[0] / 10.0)
+                .collect::<Vec<_>>()
+        })
+        .collect()
+}
+
+/// K-means of 100 iterations, one restart, every row training.
+fn kmeans(rounds: usize, dim: usize, k: usize, kind: Rows) {
+    let random = &mut Random::new(1, 91, (dim * 100 + k) as u64);
+    let rows = rows_of(random, dim, k, kind);
+    let draws: Vec<u32> = (0..64).map(|_| random.below(1 << 30)).collect();
+    let numbers = KMeansNumbers {
+        rows: ROWS as u32,
+        dim: dim as u32,
+        k: k as u32,
+        iterations: 100,
+        restarts: 1,
+        points_per_centroid: 4_096,
+        block: 32_768,
+    };
+    let theirs = calls::KMeansNumbers {
+        rows: numbers.rows,
+        dim: numbers.dim,
+        k: numbers.k,
+        iterations: numbers.iterations,
+        restarts: numbers.restarts,
+        points_per_centroid: numbers.points_per_centroid,
+        block: numbers.block,
+    };
+    let mut work = KMeansWork::new(ROWS, dim, 0.0, 0);
+    let mut mine = (vec![0u16; ROWS], vec![0.0f32; k * dim]);
+    let mut others = (vec![0u16; ROWS], vec![0.0f32; k * dim]);
+    let (proved, oracle) = side_by_side(
+        rounds,
+        || {
+            exported::kmeans(numbers, &draws, &rows, &mut mine.0, &mut mine.1, &mut work);
+        },
+        || {
+            let lent = calls::KMeansLent {
+                labels: &mut others.0,
+                centroids: &mut others.1,
+            };
+            let _ = calls::kmeans(&theirs, &rows, &draws, true, lent, Slip::None);
+        },
+    );
+    assert_eq!(mine, others);
+    let settled = (1..=100).find(|&iterations| {
+        let mut trial = (vec![0u16; ROWS], vec![0.0f32; k * dim]);
+        let fewer = KMeansNumbers {
+            iterations,
+            ..numbers
+        };
+        exported::kmeans(fewer, &draws, &rows, &mut trial.0, &mut trial.1, &mut work);
+        trial == mine
+    });
+    println!(
+        "k-means dim {dim:2} k {k:2} {kind:?}: {:6.2}x the oracle; {:7.2} ms, nothing changes after iteration {}",
+        oracle / proved,
+        proved * 1e3,
+        settled.unwrap_or(100),
+    );
+}
+
 fn main() {
     let rounds = std::env::args()
         .nth(1)
         .map_or(101, |word| word.parse().expect("a number"));
     for (dim, k) in SHAPES {
         labelling(rounds, dim, k);
+    }
+    for kind in [Rows::Clustered, Rows::Shapeless, Rows::Repeating] {
+        for (dim, k) in SHAPES {
+            kmeans(rounds.div_ceil(20), dim, k, kind);
+        }
     }
 }
