@@ -1,0 +1,49 @@
+-- Document 01, 'Bench examples', P3 to P10: each an equation between what the definitions give and the number that the document gives.
+-- Every side is computed, down to single operations of IEEE 754.
+use mathlib.Core.Path.{_≡_}
+use mathlib.Core.Bool.{true, false}
+use mathlib.Core.List.{List, [], _∷_}
+use Prim.Native.Nat.{ℕ}
+use lib.IntN.{pos, negsuc}
+use lib.ListN.{replicate}
+use lib.Ieee.{Float, fin, nan}
+use Rattle.sums.specs.Sums.{zero32, one32, two32}
+use Rattle.sums.specs.Refusals.{accepted, refused}
+use Rattle.labels.specs.Call.{labelCall}
+use Rattle.kmeans.specs.KMeans.{usual}
+use Rattle.kmeans.specs.Call.{lentOf, kmeansCall}
+use Rattle.closure.specs.Call.{closureCall}
+use Rattle.grouping.specs.Parts.{sizesOf}
+use Rattle.grouping.specs.Balance.{share, allowed, balance, moves, toward}
+
+abbrev half : Float
+half = fin false 1 (negsuc 0)
+
+abbrev quarter : Float
+quarter = fin false 1 (negsuc 1)
+
+abbrev minusOne : Float
+minusOne = fin true 1 (pos 0)
+
+-- rows of one reading, all alike, and as many centroids
+abbrev alike : ℕ → List (List Float)
+alike n = replicate n (one32 ∷ [])
+
+-- all rows in the first part, and `others` empty ones
+abbrev parts : ℕ → ℕ → List (List ℕ)
+parts n others = replicate n 0 ∷ replicate others []
+
+pub record Table : Type 0 where
+  pub P3-share : share 40 2 ≡ 20
+  pub P3-allowance : allowed 20 quarter ≡ 25
+  pub P3-sizes : sizesOf (balance (alike 1) (alike 2) 20 quarter (parts 40 1)) ≡ 30 ∷ 10 ∷ []
+  pub P3-moves : moves (toward (alike 1) (alike 2)) 20 25 10 (parts 40 1) ≡ 10
+  pub P4 : sizesOf (balance (alike 1) (alike 3) (share 30 3) one32 (parts 30 2)) ≡ 20 ∷ 10 ∷ 0 ∷ []
+  pub P5 : labelCall 1 1 2 (one32 ∷ []) (one32 ∷ one32 ∷ []) 1 ≡ accepted (0 ∷ [])
+  pub P6 : labelCall 1 1 2 (two32 ∷ []) (nan ∷ two32 ∷ []) 1 ≡ accepted (1 ∷ [])
+  pub P7 : labelCall 1 1 2 (nan ∷ []) (one32 ∷ two32 ∷ []) 1 ≡ accepted (0 ∷ [])
+  pub P8 : closureCall zero32 3 1 3 (zero32 ∷ []) (two32 ∷ one32 ∷ minusOne ∷ []) 3 ≡ accepted (1 ∷ 2 ∷ [])
+  pub P8-wide : closureCall one32 3 1 3 (zero32 ∷ []) (two32 ∷ one32 ∷ minusOne ∷ []) 3 ≡ accepted (1 ∷ 2 ∷ 0 ∷ [])
+  pub P9 : closureCall one32 0 1 3 (zero32 ∷ []) (two32 ∷ one32 ∷ minusOne ∷ []) 3 ≡ accepted []
+  pub P10 : kmeansCall 2 1 1 usual (0 ∷ []) (zero32 ∷ one32 ∷ []) (lentOf 2 1 2 2 2 2 2 2)
+      ≡ accepted (record { labels = 0 ∷ 0 ∷ []; centroids = (half ∷ []) ∷ []; objective = half; restart = 0 })
