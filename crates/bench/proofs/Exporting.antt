@@ -8,7 +8,7 @@ use borrow.Author.Tests.{eqb-true, le-leb, eq-eqb}
 use lib.ListN.{length, getD, take, drop, replicate, length-append, drop-of-length-le}
 use lib.Seq.{take-suc, take-all, take-at, length-take-le}
 use lib.Ieee.{Float}
-use Rattle.sums.specs.Rows.{rowsFrom}
+use Rattle.sums.specs.Rows.{Row, rowsFrom}
 use Rattle.sums.specs.Refusals.{Answer, accepted, refused, lowestIf, lowestFrom, unless, onAccepted, padded, cellsOf}
 use Rattle.sums.proofs.Tables.{length-tab}
 use Rattle.words.specs.Bytes.{floatsFrom, bytes16}
@@ -24,8 +24,12 @@ use Rattle.kmeans.specs.KMeans.{Result}
 use Rattle.kmeans.specs.Call.{Figures, figures, Gives as KMeansGives}
 use Rattle.kmeans.specs.declared.call.KMeansAnswer.{KMeansAnswer}
 use Rattle.kmeans.specs.declared.call.KMeansAnswer.the-variants.{Accepted, Refused as KMeansAnswer·Refused}
+use Rattle.grouping.specs.Groups.{Groups}
+use Rattle.grouping.specs.Call.{Figures as Group·Figures, figures as Group·figures, Gives as GroupGives}
+use Rattle.grouping.specs.declared.call.GroupingAnswer.{GroupingAnswer}
+use Rattle.grouping.specs.declared.call.GroupingAnswer.the-variants.{Accepted as GroupingAnswer·Accepted, Refused as GroupingAnswer·Refused}
 use Rattle.sums.specs.Sums.{zero32}
-use Rattle.bench.specs.Exports.{codeOf, bytesOf, Gave, labelRefusal, labelOf, labelCall, closureRefusal, closureBytesCall, closureWritten, objectiveOf, restartOf, KMeansGave}
+use Rattle.bench.specs.Exports.{codeOf, bytesOf, Gave, labelRefusal, labelOf, labelCall, closureRefusal, closureBytesCall, closureWritten, figureOf, KMeansGave, GroupGave}
 use Rattle.sums.proofs.Fronts.{flat-append}
 
 -- ---- cells as bytes
@@ -185,7 +189,7 @@ one-label dim k row centroids r cells some small one few g =
 module _ (labelCells centroidCells : ℕ) (r : KMeansAnswer) (labels : List ℕ) (centroids : List Float) where
   pub kmeans-accepted : (answer : Answer Result) (o : Float) (n : ℕ) → KMeansGives answer labelCells centroidCells r labels centroids → r ≡ Accepted o n
       → KMeansGave answer labelCells centroidCells 0 labels centroids o n
-  unfolding codeOf objectiveOf restartOf onAccepted
+  unfolding codeOf figureOf onAccepted
   kmeans-accepted (accepted a) o n g e =
       let is : accepted (record { objective = o; restart = n }) ≡ accepted (figures a) = rw e at (g .result) in
       let same : _≡_ {A = Figures} (record { objective = o; restart = n }) (figures a) = cc in
@@ -203,7 +207,7 @@ module _ (labelCells centroidCells : ℕ) (r : KMeansAnswer) (labels : List ℕ)
 
   pub kmeans-refused : (answer : Answer Result) (n : ℕ) → KMeansGives answer labelCells centroidCells r labels centroids → r ≡ KMeansAnswer·Refused n
       → KMeansGave answer labelCells centroidCells n labels centroids zero32 0
-  unfolding codeOf objectiveOf restartOf onAccepted
+  unfolding codeOf figureOf onAccepted
   kmeans-refused (accepted a) n g e =
       let is : _≡_ {A = Answer Figures} (refused n) (accepted (figures a)) = rw e at (g .result) in
       let z : _≡_ {A = ℕ} 0 1 = cc in
@@ -212,3 +216,36 @@ module _ (labelCells centroidCells : ℕ) (r : KMeansAnswer) (labels : List ℕ)
       let is : _≡_ {A = Answer Figures} (refused n) (refused number) = rw e at (g .result) in
       let same : n ≡ number = cc in
       record { code = same; labelled = g .labelled; centred = g .centred; objective-is = refl; restart-is = refl }
+
+-- ---- grouping: from the enum to the number and the counts
+module _ (dim : ℕ) (rows : List Row) (orderCells endCells meanCells : ℕ) (r : GroupingAnswer) (order ends : List ℕ) (means : List Float) where
+  pub group-accepted : (answer : Answer Groups) (n m : ℕ) → GroupGives answer dim rows orderCells endCells meanCells r order ends means → r ≡ GroupingAnswer·Accepted n m
+      → GroupGave answer dim rows orderCells endCells meanCells 0 order ends means n m
+  unfolding codeOf figureOf onAccepted
+  group-accepted (accepted a) n m g e =
+      let is : accepted (record { groups = n; splits = m }) ≡ accepted (Group·figures a) = rw e at (g .result) in
+      let same : _≡_ {A = Group·Figures} (record { groups = n; splits = m }) (Group·figures a) = cc in
+      record {
+        code = refl;
+        ordered = g .ordered;
+        ended = g .ended;
+        meant = g .meant;
+        groups-are = ap (λ (f : Group·Figures). f .groups) same;
+        splits-are = ap (λ (f : Group·Figures). f .splits) same;
+      }
+  group-accepted (refused number) n m g e =
+      let is : _≡_ {A = Answer Group·Figures} (accepted (record { groups = n; splits = m })) (refused number) = rw e at (g .result) in
+      let z : _≡_ {A = ℕ} 0 1 = cc in
+      absurd (omega arith)
+
+  pub group-refused : (answer : Answer Groups) (n : ℕ) → GroupGives answer dim rows orderCells endCells meanCells r order ends means → r ≡ GroupingAnswer·Refused n
+      → GroupGave answer dim rows orderCells endCells meanCells n order ends means 0 0
+  unfolding codeOf figureOf onAccepted
+  group-refused (accepted a) n g e =
+      let is : _≡_ {A = Answer Group·Figures} (refused n) (accepted (Group·figures a)) = rw e at (g .result) in
+      let z : _≡_ {A = ℕ} 0 1 = cc in
+      absurd (omega arith)
+  group-refused (refused number) n g e =
+      let is : _≡_ {A = Answer Group·Figures} (refused n) (refused number) = rw e at (g .result) in
+      let same : n ≡ number = cc in
+      record { code = same; ordered = g .ordered; ended = g .ended; meant = g .meant; groups-are = refl; splits-are = refl }

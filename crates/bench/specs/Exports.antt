@@ -6,7 +6,7 @@ use Prim.Native.Nat.{ℕ, _+_, _*_}
 use lib.Dec.{eqb}
 use lib.ListN.{length, replicate}
 use lib.Ieee.{Float}
-use Rattle.sums.specs.Rows.{rowsFrom}
+use Rattle.sums.specs.Rows.{Row, rowsFrom}
 use Rattle.sums.specs.Sums.{zero32}
 use Rattle.sums.specs.Refusals.{Answer, accepted, refused, within, lowest, unless, padded, cellsOf, blankCell}
 use Rattle.words.specs.Bytes.{floatsFrom, bytes16}
@@ -14,6 +14,7 @@ use Rattle.labels.specs.Label.{nearest}
 use Rattle.closure.specs.Call.{closureCall}
 use Rattle.kmeans.specs.declared.config.KMeansConfig.{KMeansConfig}
 use Rattle.kmeans.specs.KMeans.{Result}
+use Rattle.grouping.specs.Groups.{Groups, endsFrom, meanOf}
 
 -- what is returned: 0, or the refusal's number
 unfoldable pub codeOf : {A : Type 0} → Answer A → ℕ
@@ -64,18 +65,23 @@ abbrev pub configOf : ℕ → ℕ → ℕ → ℕ → KMeansConfig
 configOf iterations restarts points block =
     record { niter = iterations; nredo = restarts; «max_points_per_centroid» = points; «decode_block_size» = block }
 
--- the objective and the number of the restart kept, blank after a refusal
-unfoldable pub objectiveOf : Answer Result → Float
-objectiveOf (accepted a) = a .objective
-objectiveOf (refused number) = zero32
-
-unfoldable pub restartOf : Answer Result → ℕ
-restartOf (accepted a) = a .restart
-restartOf (refused number) = 0
+-- a figure that comes with an acceptance, blank after a refusal
+unfoldable pub figureOf : {A B : Type 0} → B → (A → B) → Answer A → B
+figureOf blank figure (accepted a) = figure a
+figureOf blank figure (refused number) = blank
 
 pub record KMeansGave (answer : Answer Result) (labelCells centroidCells r : ℕ) (labels : List ℕ) (centroids : List Float) (objective : Float) (restart : ℕ) : Type 0 where
   pub code : r ≡ codeOf answer
   pub labelled : labels ≡ cellsOf blankCell labelCells (λ (a : Result). a .labels) answer
   pub centred : centroids ≡ cellsOf zero32 centroidCells (λ (a : Result). flatten (a .centroids)) answer
-  pub objective-is : objective ≡ objectiveOf answer
-  pub restart-is : restart ≡ restartOf answer
+  pub objective-is : objective ≡ figureOf zero32 (λ (a : Result). a .objective) answer
+  pub restart-is : restart ≡ figureOf 0 (λ (a : Result). a .restart) answer
+
+-- ---- grouping over typed slices
+pub record GroupGave (answer : Answer Groups) (dim : ℕ) (rows : List Row) (orderCells endCells meanCells r : ℕ) (order ends : List ℕ) (means : List Float) (groups splits : ℕ) : Type 0 where
+  pub code : r ≡ codeOf answer
+  pub ordered : order ≡ cellsOf blankCell orderCells (λ (g : Groups). flatten (g .groups)) answer
+  pub ended : ends ≡ cellsOf blankCell endCells (λ (g : Groups). endsFrom 0 (g .groups)) answer
+  pub meant : means ≡ cellsOf zero32 meanCells (λ (g : Groups). flatMap (meanOf dim rows) (g .groups)) answer
+  pub groups-are : groups ≡ figureOf 0 (λ (g : Groups). length (g .groups)) answer
+  pub splits-are : splits ≡ figureOf 0 (λ (g : Groups). g .splits) answer

@@ -1,7 +1,7 @@
 // What the bench host calls: numbers and little-endian bytes in, a number and bytes out; and the same calls over typed slices,
 // for comparisons.
 ghost use mathlib.Core.Path.{_≡_};
-ghost use mathlib.Core.List.{List, _++_, flatMap};
+ghost use mathlib.Core.List.{List, [], _∷_, _++_, flatMap};
 ghost use Prim.Native.Nat.{ℕ, _+_, _*_, _≤_, _<_};
 ghost use lib.ListN.{length, replicate};
 ghost use Rattle.sums.specs.Refusals.{cellsOf, blankCell};
@@ -9,8 +9,13 @@ ghost use Rattle.words.specs.Bytes.{floatsFrom, bytes16};
 ghost use Rattle.labels.specs.Call.{labelCall as Call·labelCall};
 ghost use Rattle.closure.specs.Call.{closureCall};
 ghost use Rattle.kmeans.specs.Call.{kmeansCall, lentOf, Cleared};
-ghost use Rattle.bench.specs.Exports.{codeOf, Gave, labelRefusal, labelCall, labelOf, closureRefusal, closureBytesCall, closureWritten, configOf, KMeansGave};
+ghost use Rattle.bench.specs.Exports.{codeOf, Gave, labelRefusal, labelCall, labelOf, closureRefusal, closureBytesCall, closureWritten, configOf, KMeansGave, GroupGave};
+ghost use Rattle.grouping.specs.Call.{groupingCall, Cleared as Grouping·Cleared};
+ghost use Rattle.grouping.specs.Inside.{ruleOf};
+ghost use Rattle.sums.specs.Rows.{rowsFrom};
+ghost use Rattle.sums.specs.Sums.{zero32};
 use closure::ClosureAnswer;
+use grouping::call::GroupingAnswer;
 use kmeans::call::KMeansAnswer;
 use kmeans::config::KMeansConfig;
 use labels::label;
@@ -294,6 +299,79 @@ pub extern "C" fn families_kmeans(
         KMeansAnswer::Refused(number) => {
             *objective = 0.0f64;
             *restart = 0;
+            number
+        }
+    }
+}
+
+// Grouping over typed slices: 0, or the refusal's number; both counts are 0 after a refusal.
+#[no_mangle]
+pub extern "C" fn families_group(
+    rows: u32,
+    dim: u32,
+    limit: u32,
+    branching: u32,
+    weight: f32,
+    budget: u32,
+    draws: &[u32],
+    values: &[f32],
+    order: &mut [u16],
+    ends: &mut [u16],
+    means: &mut [f32],
+    groups: &mut u32,
+    splits: &mut u32,
+    waiting: &mut [u16],
+    copied: &mut [u16],
+    labels: &mut [u16],
+    gathered: &mut [f32],
+    training: &mut [f32],
+    own: &mut [f32],
+    training_own: &mut [f32],
+    distances: &mut [f32],
+    trial_labels: &mut [u16],
+    places: &mut [u16],
+) -> u32
+    ensures { λ r. ⌜ GroupGave (groupingCall (ruleOf (now (draws .entry)) dim (rowsFrom dim rows (now (values .entry))) branching weight) rows limit budget (length (now (values .entry))) (length (now (order .entry)) ∷ length (now (ends .entry)) ∷ length (now (means .entry)) ∷ length (now (waiting .entry)) ∷ length (now (copied .entry)) ∷ length (now (labels .entry)) ∷ length (now (gathered .entry)) ∷ length (now (training .entry)) ∷ length (now (own .entry)) ∷ length (now («training_own» .entry)) ∷ length (now (distances .entry)) ∷ length (now («trial_labels» .entry)) ∷ length (now (places .entry)) ∷ [])) dim (rowsFrom dim rows (now (values .entry))) (length (now (order .entry))) (length (now (ends .entry))) (length (now (means .entry))) r (now (order .exit)) (now (ends .exit)) (now (means .exit)) (now (groups .exit)) (now (splits .exit)) ⌝ }
+    ensures { λ _. ⌜ Grouping·Cleared 0 (now (waiting .exit)) × (Grouping·Cleared 0 (now (copied .exit)) × Grouping·Cleared 0 (now (labels .exit))) ⌝ }
+    ensures { λ _. ⌜ Grouping·Cleared zero32 (now (gathered .exit)) × Grouping·Cleared zero32 (now (training .exit)) ⌝ }
+    ensures { λ _. ⌜ Grouping·Cleared zero32 (now (own .exit)) × (Grouping·Cleared zero32 (now («training_own» .exit)) × Grouping·Cleared zero32 (now (distances .exit))) ⌝ }
+    ensures { λ _. ⌜ Grouping·Cleared 0 (now («trial_labels» .exit)) × Grouping·Cleared 0 (now (places .exit)) ⌝ }
+{
+    let answer = grouping::call::hierarchical_clustering(
+        rows,
+        dim,
+        limit,
+        branching,
+        weight,
+        budget,
+        draws,
+        values,
+        order,
+        ends,
+        means,
+        waiting,
+        copied,
+        labels,
+        gathered,
+        training,
+        own,
+        training_own,
+        distances,
+        trial_labels,
+        places,
+    );
+    match answer {
+        GroupingAnswer::Accepted {
+            groups: g,
+            splits: s,
+        } => {
+            *groups = g;
+            *splits = s;
+            0
+        }
+        GroupingAnswer::Refused(number) => {
+            *groups = 0;
+            *splits = 0;
             number
         }
     }

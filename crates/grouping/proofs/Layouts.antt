@@ -78,6 +78,10 @@ sizes-after [] (suc n) = refl
 sizes-after (p ∷ ps) zero = omega (arith, length-append (flat ps) p, sizes-after ps zero)
 sizes-after (p ∷ ps) (suc n) = sizes-after ps n
 
+-- the sizes of parts make up the length of their layout
+pub sizes-total : (ps : List (List ℕ)) (part sizes : List ℕ) → part ≡ flat ps → sizes ≡ sizesOf ps → total sizes ≡ length part
+sizes-total ps part sizes p s = rw (p, s) (sizes-after ps 0)
+
 -- part g where the sizes say that it lies
 pub part-at : (part sizes : List ℕ) (ps : List (List ℕ)) → part ≡ flat ps → sizes ≡ sizesOf ps → (g from end : ℕ) → g < length sizes
     → from ≡ total (drop (g + 1) sizes) → end ≡ from + getD sizes g 0 → take (end - from) (drop from part) ≡ getD ps g []

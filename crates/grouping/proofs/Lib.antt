@@ -1,4 +1,4 @@
--- The laws that the functions of this crate lean on, and what balancing promises.
+-- The laws that the functions of this crate lean on, and what balancing and grouping promise.
 pub mod Lists
 pub mod Layouts
 pub mod Gathers
@@ -10,3 +10,14 @@ pub mod Fair
 pub mod Allowances
 pub mod Rounds
 pub mod BalancePromises
+pub mod Stretches
+pub mod Stacks
+pub mod Averages
+pub mod Steps
+pub mod Splits
+pub mod States
+pub mod Calls
+pub mod GroupPromises
+pub mod SplitPromises
+pub mod CallPromises
+pub mod CellPromises

@@ -1,4 +1,6 @@
--- 01, 'Balancing', and the gathering of 'Grouping', as definitions; and what the functions inside say of their slices.
+-- 01, 'Grouping' and 'Balancing', as definitions: one split, the waiting groups, the call with its refusals, and what the functions inside say.
 pub mod Parts
 pub mod Balance
+pub mod Groups
+pub mod Call
 pub mod Inside

@@ -1,3 +1,7 @@
-// Grouping (the source's clustering.rs): rows gathered by label, and parts balanced.
+// Grouping (the source's clustering.rs): gathering, balancing, splitting, the waiting groups, means.
 pub mod balance;
+pub mod call;
 pub mod gather;
+pub mod means;
+pub mod split;
+pub mod waiting;

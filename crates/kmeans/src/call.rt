@@ -6,12 +6,13 @@ ghost use Prim.Native.Nat.{_*_, _≤_, _<_};
 ghost use lib.Dec.{eqb};
 ghost use lib.ListN.{length, replicate};
 ghost use Rattle.sums.specs.Sums.{zero32};
-ghost use Rattle.sums.specs.Refusals.{within as Refusals·within, lowest};
+ghost use Rattle.sums.specs.Refusals.{lowest};
 ghost use Rattle.kmeans.specs.Call.{rangesFit, lengthsFit, lentOf, kmeansRefusal, kmeansCall, Gives, Cleared};
 use crate::config::KMeansConfig;
 use crate::restart;
 use crate::restart::Kept;
 use sums::cells;
+use sums::checks;
 use sums::draws::Cursor;
 
 pub enum KMeansAnswer {
@@ -20,40 +21,16 @@ pub enum KMeansAnswer {
     Refused(u32),
 }
 
-fn within(low: u32, high: u32, n: u32) -> bool
-    ensures { λ r. ⌜ r ≡ Refusals·within low high n ⌝ }
-{
-    if n < low {
-        return false;
-    }
-    n <= high
-}
-
-fn both(a: bool, b: bool) -> bool
-    ensures { λ r. ⌜ r ≡ (a && b) ⌝ }
-{
-    if a {
-        return b;
-    }
-    false
-}
-
-fn same(a: usize, b: usize) -> bool
-    ensures { λ r. ⌜ r ≡ eqb a b ⌝ }
-{
-    a == b
-}
-
 // 1: a number is out of range.
 fn ranges_fit(rows: u32, dim: u32, k: u32, config: KMeansConfig) -> bool
     ensures { λ r. ⌜ r ≡ rangesFit rows dim k config ⌝ }
 {
-    let a = both(within(1, 4096, rows), within(1, 64, dim));
-    let b = both(a, within(1, 64, k));
-    let c = both(b, within(1, 100, config.niter));
-    let d = both(c, within(1, 16, config.nredo));
-    let e = both(d, within(0, 4096, config.max_points_per_centroid));
-    both(e, within(1, 32768, config.decode_block_size))
+    let a = checks::both(checks::within(1, 4096, rows), checks::within(1, 64, dim));
+    let b = checks::both(a, checks::within(1, 64, k));
+    let c = checks::both(b, checks::within(1, 100, config.niter));
+    let d = checks::both(c, checks::within(1, 16, config.nredo));
+    let e = checks::both(d, checks::within(0, 4096, config.max_points_per_centroid));
+    checks::both(e, checks::within(1, 32768, config.decode_block_size))
 }
 
 // 2: a slice is not of its length; the numbers are in range.
@@ -75,14 +52,14 @@ fn lengths_fit(
     ensures { λ r. ⌜ r ≡ lengthsFit rows dim k values (lentOf labels centroids training own «training_own» distances «trial_labels» places) ⌝ }
 {
     let cells = rows * dim;
-    let a = both(same(values, cells), same(labels, rows));
-    let b = both(a, same(centroids, k * dim));
-    let c = both(b, same(training, cells));
-    let d = both(c, same(own, rows));
-    let e = both(d, same(training_own, rows));
-    let f = both(e, same(distances, rows));
-    let g = both(f, same(trial_labels, rows));
-    both(g, same(places, rows))
+    let a = checks::both(checks::same(values, cells), checks::same(labels, rows));
+    let b = checks::both(a, checks::same(centroids, k * dim));
+    let c = checks::both(b, checks::same(training, cells));
+    let d = checks::both(c, checks::same(own, rows));
+    let e = checks::both(d, checks::same(training_own, rows));
+    let f = checks::both(e, checks::same(distances, rows));
+    let g = checks::both(f, checks::same(trial_labels, rows));
+    checks::both(g, checks::same(places, rows))
 }
 
 fn refusal(

@@ -182,7 +182,7 @@ fn try_restart(
     );
     let objective = finish_restart(values, own, dim, trial, k, trial_labels, distances);
     if objective < best.objective {
-        copy_labels(labels, trial_labels);
+        cells::copy_cells(labels, trial_labels);
         cells::copy(centroids, trial);
         return Kept {
             objective,
@@ -194,17 +194,6 @@ fn try_restart(
         objective: best.objective,
         restart: best.restart,
         cursor: next,
-    }
-}
-
-fn copy_labels(dst: &mut [u16], src: &[u16])
-    requires { ⌜ length (now dst) ≡ length (now src) ⌝ }
-    ensures { λ _. ⌜ now (dst .exit) ≡ now (src .entry) ⌝ }
-{
-    let mut i = 0usize;
-    while i < dst.len() {
-        dst[i] = src[i];
-        i += 1;
     }
 }
 

@@ -1,13 +1,14 @@
--- A call that no number refuses passed every test; cells padded with blanks. Assumes nothing.
-use Prim.Native.Nat.{ℕ, zero, suc, _≤_, _<_, suc-le-suc, zero-le}
-use mathlib.Core.Path.{_≡_, refl, sym, ap}
+-- The number that refuses a call is that of the first test that fails, and 0 where all pass; cells padded with blanks. Assumes nothing.
+use Prim.Native.Nat.{ℕ, zero, suc, _+_, _≤_, _<_, suc-le-suc, zero-le}
+use mathlib.Core.Path.{_≡_, refl, sym, ap, _∙_}
 use mathlib.Core.Bool.{Bool, true, false, _&&_, false≢true}
 use mathlib.Core.List.{List, [], _∷_, _++_}
 use native.Mathlib.Nat.{not-suc-le-zero, le-of-suc-le-suc, suc-inj, suc-ne-zero}
-use borrow.Author.Tests.{leb-true}
+use native.Mathlib.Omega.{arith}
+use borrow.Author.Tests.{leb-true, eqb-true}
 use lib.Dec.{leb}
-use lib.ListN.{length, set, replicate}
-use Rattle.sums.specs.Refusals.{within, lowestIf, lowestFrom, padded}
+use lib.ListN.{length, getD, set, replicate, getD-replicate}
+use Rattle.sums.specs.Refusals.{within, sameAll, lowestIf, lowestFrom, padded}
 
 pub both : (a b : Bool) → (a && b) ≡ true → (a ≡ true) × (b ≡ true)
 both true b e = (refl, e)
@@ -18,6 +19,16 @@ within-is low high n e =
     let h = both (leb low n) (leb n high) e in
     (leb-true low n (h .0), leb-true n high (h .1))
 
+-- lists of lengths that are the same
+pub and-same : {a a′ b b′ : Bool} → a ≡ a′ → b ≡ b′ → (a && b) ≡ (a′ && b′)
+and-same e f = rw (e, f)
+
+pub same-cons : (m n : ℕ) (ms ns : List ℕ) → sameAll (m ∷ ms) (n ∷ ns) ≡ true → (m ≡ n) × (sameAll ms ns ≡ true)
+unfolding sameAll
+same-cons m n ms ns e =
+    let h = both _ _ e in
+    (eqb-true m n (h .0), h .1)
+
 abbrev pub AllTrue : List Bool → Type 0
 AllTrue [] = Unit {0}
 AllTrue (b ∷ l) = (b ≡ true) × AllTrue l
@@ -27,6 +38,44 @@ unfolding lowestFrom lowestIf
 passed i [] e = tt
 passed i (true ∷ l) e = (refl, passed (suc i) l e)
 passed i (false ∷ l) e = absurd (suc-ne-zero i e)
+
+pub lowest-none : (i : ℕ) (l : List Bool) → AllTrue l → lowestFrom i l ≡ 0
+unfolding lowestFrom lowestIf
+lowest-none i [] h = refl
+lowest-none i (b ∷ l) h = rw (h .0) (lowest-none (suc i) l (h .1))
+
+-- test j of the list, from 0, is the first that fails
+abbrev pub FirstFails : ℕ → List Bool → Type 0
+FirstFails j [] = ⊥
+FirstFails zero (b ∷ l) = b ≡ false
+FirstFails (suc j) (b ∷ l) = (b ≡ true) × FirstFails j l
+
+-- its number is given, and no other's
+pub lowest-when : (i j : ℕ) (l : List Bool) → FirstFails j l → lowestFrom i l ≡ i + j
+unfolding lowestFrom lowestIf
+lowest-when i j [] h = absurd h
+lowest-when i zero (b ∷ l) h = rw h (omega arith)
+lowest-when i (suc j) (b ∷ l) h = rw (h .0) (lowest-when (suc i) j l (h .1) ∙ omega arith)
+
+lowest-least : (i : ℕ) (l : List Bool) → 0 < lowestFrom i l → i ≤ lowestFrom i l
+unfolding lowestFrom lowestIf
+lowest-least i [] h = absurd (omega arith)
+lowest-least i (true ∷ l) h = omega (arith, lowest-least (suc i) l h)
+lowest-least i (false ∷ l) h = omega arith
+
+pub lowest-most : (i : ℕ) (l : List Bool) → lowestFrom (suc i) l ≤ i + length l
+unfolding lowestFrom lowestIf
+lowest-most i [] = omega arith
+lowest-most i (true ∷ l) = omega (arith, lowest-most (suc i) l)
+lowest-most i (false ∷ l) = omega arith
+
+pub lowest-only : (i j : ℕ) (l : List Bool) → lowestFrom (suc i) l ≡ suc i + j → FirstFails j l
+unfolding lowestFrom lowestIf
+lowest-only i j [] e = absurd (omega (arith, e))
+lowest-only i zero (true ∷ l) e = absurd (omega (arith, e, lowest-least (suc (suc i)) l (omega (arith, e))))
+lowest-only i zero (false ∷ l) e = refl
+lowest-only i (suc j) (true ∷ l) e = (refl, lowest-only (suc i) j l (e ∙ omega arith))
+lowest-only i (suc j) (false ∷ l) e = absurd (omega (arith, e))
 
 pub above-none : (n : ℕ) → (n ≡ 0 → ⊥) → 0 < n
 above-none zero h = absurd (h refl)
@@ -52,3 +101,18 @@ module _ {A : Type 0} where
   padded-more blank zero xs v h = absurd (not-suc-le-zero h)
   padded-more blank (suc n) [] v h = refl
   padded-more blank (suc n) (x ∷ xs) v h = ap (λ (l : List A). x ∷ l) (padded-more blank n xs v (le-of-suc-le-suc h))
+
+  -- the cells that hold a value, and those past them
+  pub padded-at : (blank : A) (n : ℕ) (xs : List A) (i : ℕ) (d : A) → length xs ≤ n → i < length xs → getD (padded blank n xs) i d ≡ getD xs i d
+  unfolding padded
+  padded-at blank n [] i d h k = absurd (not-suc-le-zero k)
+  padded-at blank zero (x ∷ xs) i d h k = absurd (not-suc-le-zero h)
+  padded-at blank (suc n) (x ∷ xs) zero d h k = refl
+  padded-at blank (suc n) (x ∷ xs) (suc i) d h k = padded-at blank n xs i d (le-of-suc-le-suc h) (le-of-suc-le-suc k)
+
+  pub padded-past : (blank : A) (n : ℕ) (xs : List A) (i : ℕ) (d : A) → length xs ≤ i → i < n → getD (padded blank n xs) i d ≡ blank
+  unfolding padded
+  padded-past blank n [] i d h k = rw (padded-none blank n) (getD-replicate n i blank d k)
+  padded-past blank zero (x ∷ xs) i d h k = absurd (not-suc-le-zero k)
+  padded-past blank (suc n) (x ∷ xs) zero d h k = absurd (not-suc-le-zero h)
+  padded-past blank (suc n) (x ∷ xs) (suc i) d h k = padded-past blank n xs i d (le-of-suc-le-suc h) (le-of-suc-le-suc k)

@@ -2,10 +2,17 @@
 use mathlib.Core.Bool.{Bool, true, false, _&&_}
 use mathlib.Core.List.{List, [], _∷_}
 use Prim.Native.Nat.{ℕ, zero, suc}
-use lib.Dec.{leb}
+use lib.Dec.{eqb, leb}
 
 abbrev pub within : ℕ → ℕ → ℕ → Bool
 within low high n = leb low n && leb n high
+
+-- two lists of lengths are the same
+unfoldable pub sameAll : List ℕ → List ℕ → Bool
+sameAll [] [] = true
+sameAll [] (n ∷ ns) = false
+sameAll (m ∷ ms) [] = false
+sameAll (m ∷ ms) (n ∷ ns) = eqb m n && sameAll ms ns
 
 -- The conditions left, the first of them that of refusal i: the number of the first that fails, and 0 where none does. So the lowest is given.
 unfoldable pub lowestIf : Bool → ℕ → ℕ → ℕ

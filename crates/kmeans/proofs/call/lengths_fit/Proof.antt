@@ -7,8 +7,8 @@ use Rattle.kmeans.proofs.call.lengths_fit.Statement.{statement}
 use Rattle.kmeans.proofs.call.lengths_fit.Tie as tie
 use Rattle.kmeans.proofs.call.lengths_fit.Reads as reads
 use Rattle.kmeans.proofs.call.lengths_fit.Lts as lts
-use Rattle.kmeans.proofs.call.both.Reads as both-reads
-use Rattle.kmeans.proofs.call.same.Reads as same-reads
+use Rattle.sums.proofs.checks.both.Reads as both-reads
+use Rattle.sums.proofs.checks.same.Reads as same-reads
 
 -- src/call.rt:77:17
 mul-cells : tie.Need-mul-cells

@@ -6,8 +6,8 @@ use Rattle.kmeans.proofs.call.ranges_fit.Statement.{statement}
 use Rattle.kmeans.proofs.call.ranges_fit.Tie as tie
 use Rattle.kmeans.proofs.call.ranges_fit.Reads as reads
 use Rattle.kmeans.proofs.call.ranges_fit.Lts as lts
-use Rattle.kmeans.proofs.call.both.Reads as both-reads
-use Rattle.kmeans.proofs.call.within.Reads as within-reads
+use Rattle.sums.proofs.checks.both.Reads as both-reads
+use Rattle.sums.proofs.checks.within.Reads as within-reads
 
 -- src/call.rt:51:18
 within-requires : tie.Need-within-requires

@@ -11,7 +11,7 @@ use Rattle.kmeans.proofs.restart.try_restart.Statement.{statement}
 use Rattle.kmeans.proofs.restart.try_restart.Tie as tie
 use Rattle.kmeans.proofs.restart.try_restart.Reads as reads
 use Rattle.kmeans.proofs.restart.try_restart.Lts as lts
-use Rattle.kmeans.proofs.restart.copy_labels.Reads as copy-labels-reads
+use Rattle.sums.proofs.cells.copy_cells.Reads as copy-cells-reads
 use Rattle.kmeans.proofs.restart.finish_restart.Reads as finish-restart-reads
 use Rattle.kmeans.proofs.restart.run_restart.Reads as run-restart-reads
 use Rattle.sums.proofs.cells.copy.Reads as copy-reads
@@ -77,8 +77,8 @@ finish-restart-requires c κs =
     )
 
 -- src/restart.rt:185:9
-copy-labels-requires : tie.Need-copy-labels-requires
-copy-labels-requires c κs = sym (c .before .before .before .before .before .before .before .before .finish-restart .kept .1 .1 .1 .1 .1 .0 ∙ labels-back (c .before .before .before .before .before .before .before .before .before .before .before .before .before .before .before .before .before .before .before .before .before .before .before .before .before .before))
+copy-cells-requires : tie.Need-copy-cells-requires
+copy-cells-requires c κs = sym (c .before .before .before .before .before .before .before .before .finish-restart .kept .1 .1 .1 .1 .1 .0 ∙ labels-back (c .before .before .before .before .before .before .before .before .before .before .before .before .before .before .before .before .before .before .before .before .before .before .before .before .before .before))
 
 -- src/restart.rt:186:9
 copy-requires : tie.Need-copy-requires
@@ -126,7 +126,7 @@ same-length-9 c = search needs
 returns : tie.Need-returns
 returns c =
     let z = c .before .before .before .before .before .before .before .before .before .before .before .before .before .before .before .before .before .before .before .before .before .before .before .before .before .before .before .before .before .before .before .before .before .before .before .before .before .before .before .before .before .before .before .before .before .before .before .before .before .before .before .before .before .before .before .before .before in
-    rw (c .before .before .before .before .before .before .before .copy-labels .ensures, c .before .before .copy .ensures)
+    rw (c .before .before .before .before .before .before .before .copy-cells .ensures, c .before .before .copy .ensures)
     (tried-better _ _ _ _ _ _ _ _ (z .args .best) _ _ _ _ _ _ (rw (labels-lent z) at (c .before .before .before .before .before .before .before .before .before .before .before .before .before .before .before .before .before .before .before .before .before .before .before .before .before .before .before .before .before .before .before .before .before .before .run-restart .ensures)) (rw (labels-back (c .before .before .before .before .before .before .before .before .before .before .before .before .before .before .before .before .before .before .before .before .before .before .before .before .before .before .before .before .before .before .before .before .before .before)) at (c .before .before .before .before .before .before .before .before .before .before .before .before .before .before .before .before .finish-restart .ensures)) (c .before .before .before .before .before .before .before .before .before .before .if1 .taken))
 
 -- src/restart.rt:137:1
@@ -173,7 +173,7 @@ try-restart-spec =
     slice-aggregate-run-restart-2
     run-restart-requires
     finish-restart-requires
-    copy-labels-requires
+    copy-cells-requires
     copy-requires
     same-length
     same-length-2

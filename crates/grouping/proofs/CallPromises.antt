@@ -1,0 +1,241 @@
+-- What a grouping call promises: which number refuses it and when, the rows it lists, and what a budget can change. Assumes nothing.
+use mathlib.Core.Path.{_≡_, refl, sym, _∙_}
+use mathlib.Core.Logic.{_↔_, inl, inr}
+use mathlib.Core.Bool.{Bool, true, false, _&&_, false≢true}
+use mathlib.Core.List.{List, [], _∷_}
+use Prim.Native.Nat.{ℕ, zero, suc, _≤_, _<_}
+use native.Mathlib.Omega.{arith}
+use borrow.Author.Tests.{le-leb}
+use lib.ListN.{length}
+use Rattle.sums.specs.Tables.{upTo}
+use Rattle.sums.specs.Refusals.{Answer, accepted, refused, within, unless}
+use Rattle.sums.proofs.Refusing.{both, passed, lowest-none, lowest-when, lowest-most, lowest-only}
+use Rattle.grouping.specs.Groups.{Rule, Groups, partsOf, madeBy, waits, grouping, groupFrom}
+use Rattle.grouping.specs.Call.{rangesFit, lengthsFit, groupingRefusal, groupingCall}
+use Rattle.grouping.proofs.GroupPromises.{Listing, Passes, Small, Spent, Done, six-when, six-only, seven-when, seven-only, accepted-when, accepted-only, only-six-or-seven, budget-accepted, budget-six, accepted-listing}
+use Rattle.grouping.proofs.Calls.{Ranged, ranged}
+use Rattle.grouping.proofs.SplitPromises.{start, parts-kept, Splits, SplitPromise, each-split}
+
+-- The numbers that a grouping call can be refused by.
+pub data Number : ℕ → Type 0 where
+  range : Number 1
+  slice : Number 2
+  draw : Number 4
+  small : Number 6
+  spent : Number 7
+
+-- the budget alone may be another in range
+ranged-budget : (rows dim limit branching budget n : ℕ) → rangesFit rows dim limit branching budget ≡ true → n ≤ 8192 → rangesFit rows dim limit branching n ≡ true
+unfolding rangesFit
+ranged-budget rows dim limit branching budget n e h =
+    let a : (within 0 4096 rows && within 1 64 dim && within 0 4096 limit && within 1 64 branching) ≡ true = both _ _ e .0 in
+    rw (a, le-leb 0 n (omega arith), le-leb n 8192 h)
+
+-- One call; the rule has its draws, readings, branching and weight.
+module _ (rule : Rule) (rows limit budget values : ℕ) (lent : List ℕ) where
+  abbrev pub call : Answer Groups
+  call = groupingCall rule rows limit budget values lent
+
+  -- every number is in range
+  abbrev pub ranges : Bool
+  ranges = rangesFit rows (rule .dim) limit (rule .branching) budget
+
+  -- every lent slice is as long as the numbers say
+  abbrev pub slices : Bool
+  slices = lengthsFit rows (rule .dim) values lent
+
+  -- there are from 1 to 4,096 draws
+  abbrev pub draws : Bool
+  draws = within 1 4096 (length (rule .draws))
+
+  abbrev pub refusal : ℕ
+  refusal = groupingRefusal rows (rule .dim) limit (rule .branching) budget (length (rule .draws)) values lent
+
+  -- none of 1 to 4 refuses the call
+  abbrev pub Passed : Type 0
+  Passed = refusal ≡ 0
+
+  -- the call comes to an oversize group that has fewer rows than branching
+  abbrev pub MeetsSmall : Type 0
+  MeetsSmall = Small (partsOf rule) (madeBy rule) limit (rule .branching) budget 0 (start rule)
+
+  -- it comes to an oversize group that has no fewer, when the splits done equal the budget
+  abbrev pub MeetsSpent : Type 0
+  MeetsSpent = Spent (partsOf rule) (madeBy rule) limit (rule .branching) budget 0 (start rule)
+
+  -- it comes to where no group waits
+  abbrev pub MeetsEnd : Type 0
+  MeetsEnd = Done (partsOf rule) (madeBy rule) limit (rule .branching) budget 0 (start rule)
+
+  abbrev tests : List Bool
+  tests = ranges ∷ slices ∷ true ∷ draws ∷ []
+
+  -- ---- the call by its refusal
+  call-passed : refusal ≡ 0 → call ≡ grouping rule limit budget
+  unfolding groupingCall unless
+  call-passed e = rw e
+
+  call-refused : (n : ℕ) → refusal ≡ suc n → call ≡ refused (suc n)
+  unfolding groupingCall unless
+  call-refused n e = rw e
+
+  refusal-most : refusal ≤ 4
+  unfolding groupingRefusal
+  refusal-most = lowest-most 0 tests
+
+  -- a number below 6 comes from the tests, and one above 4 from the grouping
+  early : (number : ℕ) → number < 6 → call ≡ refused number → refusal ≡ number
+  early number h c = go refusal refl
+    where
+      go : (n : ℕ) → refusal ≡ n → refusal ≡ number
+      go zero e = elim (only-six-or-seven (partsOf rule) (madeBy rule) limit (rule .branching) budget 0 number (start rule) (sym (call-passed e) ∙ c)) [
+        | inl z ↦ absurd (omega arith)
+        | inr z ↦ absurd (omega arith)
+      ]
+      go (suc n) e = let d : _≡_ {A = Answer Groups} (refused (suc n)) (refused number) = sym (call-refused n e) ∙ c in e ∙ cc
+
+  late : (number : ℕ) → 4 < number → call ≡ refused number → refusal ≡ 0
+  late number h c = go refusal refl
+    where
+      go : (n : ℕ) → refusal ≡ n → refusal ≡ 0
+      go zero e = e
+      go (suc n) e =
+          let d : _≡_ {A = Answer Groups} (refused (suc n)) (refused number) = sym (call-refused n e) ∙ c in
+          let z : suc n ≡ number = cc in
+          absurd (omega (arith, refusal-most))
+
+  -- ---- when each number is given
+
+  -- None of 1 to 4 exactly when all three tests pass.
+  pub passed-exactly : Passed ↔ ((ranges ≡ true) × (slices ≡ true) × (draws ≡ true))
+  unfolding groupingRefusal
+  passed-exactly = ((λ e. let t = passed 0 tests e in (t .0, t .1 .0, t .1 .1 .1 .0)), (λ t. lowest-none 1 tests (t .0, (t .1, (refl, (t .2, tt))))))
+
+  -- Refused by 1 exactly when a number is out of range.
+  pub refused-one : (call ≡ refused 1) ↔ (ranges ≡ false)
+  unfolding groupingRefusal
+  refused-one = ((λ c. lowest-only 0 0 tests (early 1 (omega arith) c)), (λ t. call-refused 0 (lowest-when 1 0 tests t)))
+
+  -- Refused by 2 exactly when the numbers are in range and a slice is of another length.
+  pub refused-two : (call ≡ refused 2) ↔ ((ranges ≡ true) × (slices ≡ false))
+  unfolding groupingRefusal
+  refused-two = ((λ c. lowest-only 0 1 tests (early 2 (omega arith) c)), (λ t. call-refused 1 (lowest-when 1 1 tests t)))
+
+  -- Refused by 4 exactly when numbers and slices fit, and there are no draws or more than 4,096.
+  pub refused-four : (call ≡ refused 4) ↔ ((ranges ≡ true) × (slices ≡ true) × (draws ≡ false))
+  unfolding groupingRefusal
+  refused-four = (
+    (λ c. let t = lowest-only 0 3 tests (early 4 (omega arith) c) in (t .0, t .1 .0, t .1 .1 .1)),
+    (λ t. call-refused 3 (lowest-when 1 3 tests (t .0, (t .1, (refl, t .2))))),
+  )
+
+  -- Refused by 6 exactly when it comes to an oversize group that has fewer rows than branching.
+  pub refused-six : (call ≡ refused 6) ↔ (Passed × MeetsSmall)
+  refused-six = (
+    (λ c. let e = late 6 (omega arith) c in (e, six-only (partsOf rule) (madeBy rule) limit (rule .branching) budget 0 (start rule) (sym (call-passed e) ∙ c))),
+    (λ t. call-passed (t .0) ∙ six-when (partsOf rule) (madeBy rule) limit (rule .branching) budget 0 (start rule) (t .1)),
+  )
+
+  -- Refused by 7 exactly when it comes to an oversize group that has no fewer, and the splits done equal the budget.
+  pub refused-seven : (call ≡ refused 7) ↔ (Passed × MeetsSpent)
+  refused-seven = (
+    (λ c. let e = late 7 (omega arith) c in (e, seven-only (partsOf rule) (madeBy rule) limit (rule .branching) budget 0 (start rule) (sym (call-passed e) ∙ c))),
+    (λ t. call-passed (t .0) ∙ seven-when (partsOf rule) (madeBy rule) limit (rule .branching) budget 0 (start rule) (t .1)),
+  )
+
+  -- Accepted exactly when it comes to where no group waits.
+  pub accepted-exactly : Passes call ↔ (Passed × MeetsEnd)
+  accepted-exactly = (
+    (λ p. to refusal refl p),
+    (λ t. rw (call-passed (t .0)) (accepted-when (partsOf rule) (madeBy rule) limit (rule .branching) budget 0 (start rule) (t .1))),
+  )
+    where
+      done : (a : Answer Groups) → grouping rule limit budget ≡ a → Passes a → MeetsEnd
+      done (accepted g) e p = accepted-only (partsOf rule) (madeBy rule) limit (rule .branching) budget 0 (start rule) g e
+      done (refused number) e p = absurd p
+
+      to : (n : ℕ) → refusal ≡ n → Passes call → Passed × MeetsEnd
+      to zero e p = (e, done (grouping rule limit budget) refl (rw (call-passed e) at p))
+      to (suc n) e p = absurd (rw (call-refused n e) at p)
+
+  -- No other number refuses a call.
+  pub refused-otherwise : (number : ℕ) → call ≡ refused number → Number number
+  unfolding groupingRefusal
+  refused-otherwise number c = go refusal refl
+    where
+      late-number : refusal ≡ 0 → Number number
+      late-number e = elim (only-six-or-seven (partsOf rule) (madeBy rule) limit (rule .branching) budget 0 number (start rule) (sym (call-passed e) ∙ c)) [
+        | inl z ↦ rw z small
+        | inr z ↦ rw z spent
+      ]
+
+      is : (n : ℕ) → refusal ≡ suc n → number ≡ suc n
+      is n e = let d : _≡_ {A = Answer Groups} (refused number) (refused (suc n)) = sym c ∙ call-refused n e in cc
+
+      go : (n : ℕ) → refusal ≡ n → Number number
+      go zero e = late-number e
+      go (suc zero) e = rw (is 0 e) range
+      go (suc (suc zero)) e = rw (is 1 e) slice
+      go (suc (suc (suc zero))) e = absurd (false≢true (sym (lowest-only 0 2 tests e .1 .1)))
+      go (suc (suc (suc (suc zero)))) e = rw (is 3 e) draw
+      go (suc (suc (suc (suc (suc n))))) e = absurd (omega (arith, refusal-most))
+
+  -- ---- the rows, the sizes and the ends
+
+  -- An accepted call passed all tests.
+  pub accepted-passed : (g : Groups) → call ≡ accepted g → Passed
+  accepted-passed g c = accepted-exactly .0 (rw c tt) .0
+
+  passed-ranged : Passed → Ranged rows (rule .dim) (rule .branching) budget
+  passed-ranged e = ranged rows (rule .dim) limit (rule .branching) budget (passed-exactly .0 e .0)
+
+  -- An accepted call lists each row exactly once, in groups of one row to the limit; the ends are their running totals.
+  pub call-listing : length (rule .rows) ≡ rows → (g : Groups) → call ≡ accepted g → Listing limit rows (g .groups)
+  call-listing sized g c =
+      let e = accepted-passed g c in
+      let r = passed-ranged e in
+      let a : groupFrom (partsOf rule) (madeBy rule) limit (rule .branching) budget 0 (waits (upTo rows) []) ≡ accepted g = rw sized at (sym (call-passed e) ∙ c) in
+      accepted-listing (partsOf rule) (madeBy rule) limit (rule .branching) 4096 (λ n g k l. parts-kept rule n g (r .some) k l .0) budget rows g (r .few-rows) a
+
+  -- Every split of a call that none of 1 to 4 refuses keeps what is promised of a split, whether the call is accepted or not.
+  pub call-splits : Passed → length (rule .rows) ≡ rows → (n : ℕ) (g : List ℕ) → Splits rule limit budget n g → SplitPromise rule n g
+  call-splits e sized n g s =
+      let r = passed-ranged e in
+      each-split rule limit budget n g (r .some) (rw sized (r .few-rows)) s
+
+-- ---- the budget: calls alike in all else
+module _ (rule : Rule) (rows limit values : ℕ) (lent : List ℕ) where
+  -- the call with this budget
+  abbrev pub under : ℕ → Answer Groups
+  under budget = groupingCall rule rows limit budget values lent
+
+  -- another budget in range is refused by none of 1 to 4 either
+  budget-passed : (budget c : ℕ) → c ≤ 8192 → Passed rule rows limit budget values lent → Passed rule rows limit c values lent
+  budget-passed budget c h e =
+      let t = passed-exactly rule rows limit budget values lent .0 e in
+      passed-exactly rule rows limit c values lent .1 (ranged-budget rows (rule .dim) limit (rule .branching) budget c (t .0) h, t .1, t .2)
+
+  -- What other budgets give where this one is accepted.
+  pub record Budgets (budget : ℕ) (g : Groups) : Type 0 where
+    pub within : g .splits ≤ budget
+    pub same : (c : ℕ) → g .splits ≤ c → c ≤ 8192 → under c ≡ accepted g
+    pub less : (c : ℕ) → c < g .splits → under c ≡ refused 7
+
+  -- Accepted with s splits: they are within the budget, every budget from s to 8,192 gives the same, and every one below s gives 7.
+  pub call-budget : (budget : ℕ) (g : Groups) → under budget ≡ accepted g → Budgets budget g
+  call-budget budget g a =
+      let e = accepted-passed rule rows limit budget values lent g a in
+      let r = passed-ranged rule rows limit budget values lent e in
+      let s = budget-accepted (partsOf rule) (madeBy rule) limit (rule .branching) budget 0 (start rule) g (sym (call-passed rule rows limit budget values lent e) ∙ a) in
+      record {
+        within = s .0;
+        same = λ c h k. call-passed rule rows limit c values lent (budget-passed budget c k e) ∙ s .1 .0 c h;
+        less = λ c h. call-passed rule rows limit c values lent (budget-passed budget c (omega (arith, s .0)) e) ∙ s .1 .1 c h;
+      }
+
+  -- Refused by 6: by 6 under every larger budget up to 8,192.
+  pub call-budget-six : (budget : ℕ) → under budget ≡ refused 6 → (c : ℕ) → budget ≤ c → c ≤ 8192 → under c ≡ refused 6
+  call-budget-six budget a c h k =
+      let e = refused-six rule rows limit budget values lent .0 a .0 in
+      call-passed rule rows limit c values lent (budget-passed budget c k e)
+      ∙ budget-six (partsOf rule) (madeBy rule) limit (rule .branching) budget 0 (start rule) (sym (call-passed rule rows limit budget values lent e) ∙ a) c h

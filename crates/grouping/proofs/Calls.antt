@@ -1,0 +1,230 @@
+-- A grouping call: what its tests tell of its numbers, and what each answer gives. Assumes nothing.
+use mathlib.Core.Path.{_≡_, refl, sym, ap, _∙_}
+use mathlib.Core.Bool.{true}
+use mathlib.Core.List.{List, [], _∷_, flatten, flatMap}
+use Prim.Native.Nat.{ℕ, zero, suc, _+_, _-_, _*_, _≤_, _<_}
+use native.Mathlib.Omega.{arith}
+use lib.Ieee.{Float}
+use lib.ListN.{length, getD, take, replicate, length-append}
+use lib.Seq.{take-at}
+use Rattle.sums.specs.Rows.{Row, rowsFrom}
+use Rattle.sums.specs.Cells.{Below}
+use Rattle.sums.specs.Sums.{zero32}
+use Rattle.sums.specs.Refusals.{Answer, accepted, refused, unless, onAccepted, padded, cellsOf, blankCell}
+use Rattle.sums.proofs.Refusing.{both, within-is, same-cons, passed, padded-all, padded-none}
+use Rattle.grouping.specs.declared.call.GroupingAnswer.{GroupingAnswer}
+use Rattle.grouping.specs.declared.call.GroupingAnswer.the-variants.{Accepted, Refused}
+use Rattle.grouping.specs.Groups.{Rule, Groups, grouping, endsFrom, meanOf}
+use Rattle.grouping.specs.Inside.{GroupRoom, Listed, Grouped, Cut, ruleOf}
+use Rattle.grouping.specs.Call.{rangesFit, lengthsFit, groupingRefusal, groupingCall, figures, Figures, told, Gives}
+use Rattle.grouping.proofs.Stretches.{padded-is, ends-length, start-is, end-is}
+
+-- ---- the numbers of a call that refusal 1 lets through
+pub record Ranged (rows dim branching budget : ℕ) : Type 0 where
+  pub few-rows : rows ≤ 4096
+  pub some-dim : 0 < dim
+  pub small-dim : dim ≤ 64
+  pub some : 0 < branching
+  pub few : branching ≤ 64
+  pub few-splits : budget ≤ 8192
+
+pub ranged : (rows dim limit branching budget : ℕ) → rangesFit rows dim limit branching budget ≡ true → Ranged rows dim branching budget
+unfolding rangesFit
+ranged rows dim limit branching budget e =
+    let d = both _ _ e in
+    let c = both _ _ (d .0) in
+    let b = both _ _ (c .0) in
+    let a = both _ _ (b .0) in
+    record {
+      few-rows = within-is 0 4096 rows (a .0) .1;
+      some-dim = within-is 1 64 dim (a .1) .0;
+      small-dim = within-is 1 64 dim (a .1) .1;
+      some = within-is 1 64 branching (c .1) .0;
+      few = within-is 1 64 branching (c .1) .1;
+      few-splits = within-is 0 8192 budget (d .1) .1;
+    }
+
+-- ---- a call that no number refuses has room and draws enough
+pub record Fitting (rows dim branching budget draws values order ends means waiting copied labels gathered training own trainingOwn distances trialLabels places : ℕ) : Type 0 where
+  pub order-is : order ≡ rows
+  pub mean-cells : means ≡ rows * dim
+  pub some-draws : 0 < draws
+  pub few-splits : budget ≤ 8192
+  pub room : GroupRoom dim rows branching values ends waiting copied labels gathered training own trainingOwn distances trialLabels places
+
+pub fitting : (rows dim limit branching budget draws values order ends means waiting copied labels gathered training own trainingOwn distances trialLabels places : ℕ)
+    → groupingRefusal rows dim limit branching budget draws values (order ∷ ends ∷ means ∷ waiting ∷ copied ∷ labels ∷ gathered ∷ training ∷ own ∷ trainingOwn ∷ distances ∷ trialLabels ∷ places ∷ []) ≡ 0
+    → Fitting rows dim branching budget draws values order ends means waiting copied labels gathered training own trainingOwn distances trialLabels places
+unfolding groupingRefusal lengthsFit
+fitting rows dim limit branching budget draws values order ends means waiting copied labels gathered training own trainingOwn distances trialLabels places e =
+    let held = passed 0 _ e in
+    let r = ranged rows dim limit branching budget (held .0) in
+    let a = same-cons _ _ _ _ (held .1 .0) in
+    let b = same-cons _ _ _ _ (a .1) in
+    let c = same-cons _ _ _ _ (b .1) in
+    let d = same-cons _ _ _ _ (c .1) in
+    let f = same-cons _ _ _ _ (d .1) in
+    let g = same-cons _ _ _ _ (f .1) in
+    let h = same-cons _ _ _ _ (g .1) in
+    let i = same-cons _ _ _ _ (h .1) in
+    let j = same-cons _ _ _ _ (i .1) in
+    let k = same-cons _ _ _ _ (j .1) in
+    let l = same-cons _ _ _ _ (k .1) in
+    let m = same-cons _ _ _ _ (l .1) in
+    let n = same-cons _ _ _ _ (m .1) in
+    let o = same-cons _ _ _ _ (n .1) in
+    record {
+      order-is = b .0;
+      mean-cells = d .0;
+      some-draws = within-is 1 4096 draws (held .1 .1 .1 .0) .0;
+      few-splits = r .few-splits;
+      room = record {
+        some-dim = r .some-dim;
+        small-dim = r .small-dim;
+        some = r .some;
+        few = r .few;
+        few-rows = r .few-rows;
+        value-cells = a .0;
+        end-cells = c .0;
+        waiting-cells = f .0;
+        copied-cells = g .0;
+        label-cells = h .0;
+        gathered-cells = i .0;
+        training-cells = j .0;
+        own-cells = k .0;
+        training-own-cells = l .0;
+        distance-cells = m .0;
+        trial-cells = n .0;
+        place-cells = o .0;
+      };
+    }
+
+-- the same room, its rows and parts counted otherwise
+pub room-at : {dim rows k values ends waiting copied labels gathered training own trainingOwn distances trialLabels places : ℕ} (n m : ℕ) → n ≡ rows → m ≡ k
+    → GroupRoom dim rows k values ends waiting copied labels gathered training own trainingOwn distances trialLabels places
+    → GroupRoom dim n m values ends waiting copied labels gathered training own trainingOwn distances trialLabels places
+room-at n m e f r = rw (e, f) r
+
+-- ---- what each answer gives
+
+abbrev figuresOf : ℕ → ℕ → Figures
+figuresOf groups splits = record { groups = groups; splits = splits }
+
+-- the same, its cells counted otherwise
+pub grouped-at : {answer : Answer Groups} {n : ℕ} {r : GroupingAnswer} {order ends : List ℕ} (m : ℕ) → m ≡ n → Grouped answer n r order ends → Grouped answer m r order ends
+grouped-at m e g = rw e g
+
+part-within : (gs : List (List ℕ)) (i : ℕ) → i < length gs → length (flatten (take i gs)) + length (getD gs i []) ≤ length (flatten gs)
+unfolding flatten
+part-within [] i h = absurd (omega arith)
+part-within (g ∷ gs) zero h = omega (arith, length-append g (flatten gs))
+part-within (g ∷ gs) (suc i) h = omega (arith, length-append g (flatten (take i gs)), length-append g (flatten gs), part-within gs i (omega arith))
+
+-- the acceptance that the code's answer tells of, and its groups as they stand in the row order and the ends
+pub record Taken (answer : Answer Groups) (n groups splits : ℕ) (order ends : List ℕ) : Type 0 where
+  pub g : Groups
+  pub is : answer ≡ accepted g
+  pub many : length (g .groups) ≡ groups
+  pub laid : order ≡ flatten (g .groups)
+  pub cells : ends ≡ padded blankCell n (endsFrom 0 (g .groups))
+  pub ended : take groups ends ≡ endsFrom 0 (g .groups)
+  pub below : Below n order
+  pub fits : groups ≤ n
+
+pub taken : (answer : Answer Groups) (n groups splits : ℕ) (order ends : List ℕ) → Grouped answer n (Accepted groups splits) order ends → Taken answer n groups splits order ends
+unfolding onAccepted Listed
+taken (accepted g) n groups splits order ends h =
+    let gs = g .groups in
+    let z : figuresOf groups splits ≡ figures g = let r = h .result in cc in
+    let m : groups ≡ length gs = ap (λ (f : Figures). f .groups) z in
+    let w : n ≡ length (endsFrom 0 gs) + (n - length gs) = omega (arith, h .listed .1 .1 .1, ends-length 0 gs) in
+    record {
+      g = g;
+      is = refl;
+      many = sym m;
+      laid = h .listed .0;
+      cells = h .listed .1 .0;
+      ended = rw (m, h .listed .1 .0, padded-is blankCell n (n - length gs) (endsFrom 0 gs) w) (take-at (endsFrom 0 gs) (replicate (n - length gs) blankCell) (length gs) (ends-length 0 gs));
+      below = h .listed .1 .1 .0;
+      fits = omega (arith, m, h .listed .1 .1 .1);
+    }
+taken (refused number) n groups splits order ends h =
+    let r = h .result in
+    let z : _≡_ {A = ℕ} 0 1 = cc in
+    absurd (omega arith)
+
+pub cut : {answer : Answer Groups} {groups splits : ℕ} {order ends : List ℕ} → Taken answer (length order) groups splits order ends → Cut (length order) order (take groups ends)
+cut {groups = groups} {order = order} {ends = ends} t =
+    let gs = t .g .groups in
+    let n : length (take groups ends) ≡ length gs = ap length (t .ended) ∙ ends-length 0 gs in
+    record {
+      below = t .below;
+      ascend = λ i h. rw (t .ended) (omega (arith, start-is 0 gs i (omega (arith, n, h)), end-is 0 gs i (omega (arith, n, h))));
+      reach = λ i h. rw (t .ended) (omega (arith, end-is 0 gs i (omega (arith, n, h)), part-within gs i (omega (arith, n, h)), ap length (t .laid)));
+    }
+
+module _ (answer : Answer Groups) (dim : ℕ) (values : List Float) (order ends : List ℕ) (meanCells : ℕ) where
+  pub gives-listed : (groups splits : ℕ) (means : List Float) → length ends ≡ length order → Grouped answer (length order) (Accepted groups splits) order ends
+      → ((gs : List (List ℕ)) → order ≡ flatten gs → take groups ends ≡ endsFrom 0 gs → means ≡ padded zero32 meanCells (flatMap (meanOf dim (rowsFrom dim (length order) values)) gs))
+      → Gives answer dim (rowsFrom dim (length order) values) (length order) (length ends) meanCells (Accepted groups splits) order ends means
+  unfolding cellsOf
+  gives-listed groups splits means e h m =
+      let t = taken answer (length order) groups splits order ends h in
+      record {
+        result = h .result;
+        ordered = rw (t .is) (t .laid ∙ sym (padded-all blankCell (length order) (flatten (t .g .groups)) (ap length (sym (t .laid)))));
+        ended = rw (t .is, e) (t .cells);
+        meant = rw (t .is) (m (t .g .groups) (t .laid) (t .ended));
+      }
+
+  pub gives-blank : (number : ℕ) (order′ ends′ : List ℕ) (means : List Float) → Grouped answer (length order) (Refused number) order ends
+      → order′ ≡ replicate (length order) blankCell → ends′ ≡ replicate (length ends) blankCell → means ≡ replicate meanCells zero32
+      → Gives answer dim (rowsFrom dim (length order) values) (length order) (length ends) meanCells (Refused number) order′ ends′ means
+  unfolding onAccepted cellsOf
+  gives-blank number order′ ends′ means h o e m = go answer (h .result)
+    where
+      go : (a : Answer Groups) → told (Refused number) ≡ onAccepted figures a
+          → Gives a dim (rowsFrom dim (length order) values) (length order) (length ends) meanCells (Refused number) order′ ends′ means
+      go (accepted g) r = let z : _≡_ {A = ℕ} 0 1 = cc in absurd (omega arith)
+      go (refused other) r = record {
+        result = r;
+        ordered = o ∙ sym (padded-none blankCell (length order));
+        ended = e ∙ sym (padded-none blankCell (length ends));
+        meant = m ∙ sym (padded-none zero32 meanCells);
+      }
+
+module _ (draws : List ℕ) (rows dim limit branching : ℕ) (weight : Float) (budget : ℕ) (values : List Float) (lent : List ℕ) where
+  abbrev called : Answer Groups
+  called = groupingCall (ruleOf draws dim (rowsFrom dim rows values) branching weight) rows limit budget (length values) lent
+
+  pub gives-refused : (orderCells endCells meanCells number : ℕ) (order ends : List ℕ) (means : List Float)
+      → number ≡ groupingRefusal rows dim limit branching budget (length draws) (length values) lent → (number ≡ 0 → ⊥)
+      → order ≡ replicate orderCells blankCell → ends ≡ replicate endCells blankCell → means ≡ replicate meanCells zero32
+      → Gives called dim (rowsFrom dim rows values) orderCells endCells meanCells (Refused number) order ends means
+  unfolding groupingCall unless onAccepted cellsOf
+  gives-refused orderCells endCells meanCells zero order ends means e h o d m = absurd (h refl)
+  gives-refused orderCells endCells meanCells (suc number) order ends means e h o d m = record {
+    result = rw (← e);
+    ordered = o ∙ rw (← e) (sym (padded-none blankCell orderCells));
+    ended = d ∙ rw (← e) (sym (padded-none blankCell endCells));
+    meant = m ∙ rw (← e) (sym (padded-none zero32 meanCells));
+  }
+
+  pub called-is : groupingRefusal rows dim limit branching budget (length draws) (length values) lent ≡ 0
+      → called ≡ grouping (ruleOf draws dim (rowsFrom dim rows values) branching weight) limit budget
+  unfolding groupingCall unless
+  called-is e = rw e
+
+  pub gives-called : {r : GroupingAnswer} {order ends : List ℕ} {means : List Float} (n k orderCells orderCells′ endCells endCells′ meanCells : ℕ)
+      → groupingRefusal rows dim limit branching budget (length draws) (length values) lent ≡ 0
+      → n ≡ rows → k ≡ branching → orderCells′ ≡ rows → orderCells ≡ rows → endCells′ ≡ endCells
+      → Gives (grouping (ruleOf draws dim (rowsFrom dim n values) k weight) limit budget) dim (rowsFrom dim orderCells′ values) orderCells′ endCells′ meanCells r order ends means
+      → Gives called dim (rowsFrom dim rows values) orderCells endCells meanCells r order ends means
+  gives-called n k orderCells orderCells′ endCells endCells′ meanCells e a b c d f g = rw (called-is e, d) (rw (a, b, c, f) at g)
+
+-- the same call, its result cells counted before they were filled
+pub gives-at : {dim : ℕ} {read : List Row} {r : GroupingAnswer} {order ends : List ℕ} {means : List Float} (rule : Rule) (rows limit budget values : ℕ) (rest : List ℕ)
+    (o o′ e e′ m m′ : ℕ) → o′ ≡ o → e′ ≡ e → m′ ≡ m
+    → Gives (groupingCall rule rows limit budget values (o′ ∷ e′ ∷ m′ ∷ rest)) dim read o′ e′ m′ r order ends means
+    → Gives (groupingCall rule rows limit budget values (o ∷ e ∷ m ∷ rest)) dim read o e m r order ends means
+gives-at rule rows limit budget values rest o o′ e e′ m m′ a b c g = rw (a, b, c) at g

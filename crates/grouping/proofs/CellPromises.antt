@@ -1,0 +1,218 @@
+-- What a caller reads in the result cells of a grouping call, and that the call alone decides it. Assumes nothing.
+use mathlib.Core.Path.{_≡_, refl, sym, ap, _∙_}
+use mathlib.Core.Bool.{true}
+use mathlib.Core.List.{List, [], _∷_, _++_, flatten, flatMap}
+use Prim.Native.Nat.{ℕ, zero, suc, _+_, _-_, _*_, _/_, _≤_, _<_}
+use native.Mathlib.Nat.{mul-le-mul-right}
+use native.Mathlib.Omega.{arith}
+use lib.Ieee.{Float, nan}
+use lib.ListN.{length, getD, take, drop, replicate}
+use Rattle.sums.specs.Rows.{Row, rowAt}
+use Rattle.sums.specs.Sums.{zero32}
+use Rattle.sums.specs.Refusals.{Answer, accepted, refused, onAccepted, cellsOf, padded, blankCell}
+use Rattle.sums.proofs.Weighs.{countOf}
+use Rattle.sums.proofs.Pairs.{all-at}
+use Rattle.sums.proofs.Refusing.{same-cons, padded-all, padded-none, padded-at, padded-past}
+use Rattle.grouping.specs.declared.call.GroupingAnswer.{GroupingAnswer}
+use Rattle.grouping.specs.declared.call.GroupingAnswer.the-variants.{Accepted, Refused}
+use Rattle.grouping.specs.Groups.{Rule, Groups, meanOf, endsFrom}
+use Rattle.grouping.specs.Call.{lengthsFit, Figures, figures, told, Gives}
+use Rattle.grouping.proofs.Stretches.{flatten-part, flatMap-part, flatMap-length, padded-is, padded-length, ends-length, start-is, end-is}
+use Rattle.grouping.proofs.Averages.{mean-length}
+use Rattle.grouping.proofs.GroupPromises.{Sized, Listing, some-group}
+use Rattle.grouping.proofs.CallPromises.{call, passed-exactly, accepted-passed, call-listing}
+
+-- group i as a caller reads it: the stretch of the row order from the end before it, 0 for the first, up to its own end
+abbrev pub groupAt : List ℕ → List ℕ → ℕ → List ℕ
+groupAt order ends i = take (getD ends i 0 - getD (0 ∷ ends) i 0) (drop (getD (0 ∷ ends) i 0) order)
+
+-- What an accepted call leaves in the row order and in the group ends, where it tells so many groups.
+pub record Cells (limit rows groups : ℕ) (order ends : List ℕ) : Type 0 where
+  -- each row number stands exactly once, and nothing else
+  pub once : (x : ℕ) → x < rows → countOf x order ≡ 1
+  pub all : length order ≡ rows
+  -- each group has from one row to the limit
+  pub sized : (i : ℕ) → i < groups → Sized limit (groupAt order ends i)
+  -- a group's end is the end before it and its size together, and the last is the number of rows
+  pub total : (i : ℕ) → i < groups → getD ends i 0 ≡ getD (0 ∷ ends) i 0 + length (groupAt order ends i)
+  pub last : 0 < rows → getD ends (groups - 1) 0 ≡ rows
+  -- there is a cell for each row, and those past the last group's are blank
+  pub cells : length ends ≡ rows
+  pub blank : (i : ℕ) → groups ≤ i → i < rows → getD ends i 0 ≡ blankCell
+  -- there are at most as many groups as rows, and at least rows div limit, rounded up
+  pub most : groups ≤ rows
+  pub least : 0 < limit → (rows + (limit - 1)) / limit ≤ groups
+
+-- What it leaves in the means.
+pub record Means (dim rows groups : ℕ) (readings : List Row) (order ends : List ℕ) (means : List Float) : Type 0 where
+  -- mean i is that of the readings of group i's rows, in the order in which they stand
+  pub mean : (i : ℕ) → i < groups → rowAt means dim i ≡ meanOf dim readings (groupAt order ends i)
+  -- there are dim cells for each row, and those past the last group's are zero
+  pub cells : length means ≡ rows * dim
+  pub blank : (i : ℕ) → groups * dim ≤ i → i < rows * dim → getD means i nan ≡ zero32
+
+-- What a refused call leaves, however long its slices are.
+pub record Blank (orderCells endCells meanCells : ℕ) (order ends : List ℕ) (means : List Float) : Type 0 where
+  pub order-blank : order ≡ replicate orderCells blankCell
+  pub ends-blank : ends ≡ replicate endCells blankCell
+  pub means-zero : means ≡ replicate meanCells zero32
+
+-- slices that fit: those of the results
+record Measured (rows dim orderCells endCells meanCells : ℕ) : Type 0 where
+  order-cells : orderCells ≡ rows
+  end-cells : endCells ≡ rows
+  mean-cells : meanCells ≡ rows * dim
+
+measured : (rows dim values o e m : ℕ) (work : List ℕ) → lengthsFit rows dim values (o ∷ e ∷ m ∷ work) ≡ true → Measured rows dim o e m
+unfolding lengthsFit
+measured rows dim values o e m work fit =
+    let a = same-cons _ _ _ _ fit in
+    let b = same-cons _ _ _ _ (a .1) in
+    let c = same-cons _ _ _ _ (b .1) in
+    let d = same-cons _ _ _ _ (c .1) in
+    record { order-cells = b .0; end-cells = c .0; mean-cells = d .0 }
+
+abbrev figuresOf : ℕ → ℕ → Figures
+figuresOf groups splits = record { groups = groups; splits = splits }
+
+-- One call; the rule has its draws, readings, branching and weight, and `work` the lengths of the work slices.
+module _ (rule : Rule) (rows limit budget values orderCells endCells meanCells : ℕ) (work : List ℕ) where
+  abbrev pub called : Answer Groups
+  called = call rule rows limit budget values (orderCells ∷ endCells ∷ meanCells ∷ work)
+
+  -- a result that the call may give
+  abbrev pub Result : GroupingAnswer → List ℕ → List ℕ → List Float → Type 0
+  Result r order ends means = Gives called (rule .dim) (rule .rows) orderCells endCells meanCells r order ends means
+
+  -- A call that is told `Refused` is refused by that number, and its result cells are blank.
+  pub refused-cells : (number : ℕ) (order ends : List ℕ) (means : List Float) → Result (Refused number) order ends means
+      → (called ≡ refused number) × Blank orderCells endCells meanCells order ends means
+  unfolding onAccepted cellsOf
+  refused-cells number order ends means given = go called refl (given .result) (given .ordered) (given .ended) (given .meant)
+    where
+      go : (a : Answer Groups) → called ≡ a → told (Refused number) ≡ onAccepted figures a
+          → order ≡ cellsOf blankCell orderCells (λ (g : Groups). flatten (g .groups)) a → ends ≡ cellsOf blankCell endCells (λ (g : Groups). endsFrom 0 (g .groups)) a
+          → means ≡ cellsOf zero32 meanCells (λ (g : Groups). flatMap (meanOf (rule .dim) (rule .rows)) (g .groups)) a
+          → (called ≡ refused number) × Blank orderCells endCells meanCells order ends means
+      go (accepted g) e t o n m = let z : _≡_ {A = ℕ} 0 1 = cc in absurd (omega arith)
+      go (refused number′) e t o n m =
+          let z : number′ ≡ number = cc in
+          (rw z at e, record { order-blank = o ∙ padded-none blankCell orderCells; ends-blank = n ∙ padded-none blankCell endCells; means-zero = m ∙ padded-none zero32 meanCells })
+
+  -- what lies behind a call that is told `Accepted`
+  record Behind (groups splits : ℕ) (order ends : List ℕ) (means : List Float) : Type 0 where
+    g : Groups
+    is : called ≡ accepted g
+    counted : length (g .groups) ≡ groups
+    done : g .splits ≡ splits
+    ordered : order ≡ padded blankCell orderCells (flatten (g .groups))
+    ended : ends ≡ padded blankCell endCells (endsFrom 0 (g .groups))
+    meant : means ≡ padded zero32 meanCells (flatMap (meanOf (rule .dim) (rule .rows)) (g .groups))
+
+  behind : (groups splits : ℕ) (order ends : List ℕ) (means : List Float) → Result (Accepted groups splits) order ends means → Behind groups splits order ends means
+  unfolding onAccepted cellsOf
+  behind groups splits order ends means given = go called refl (given .result) (given .ordered) (given .ended) (given .meant)
+    where
+      go : (a : Answer Groups) → called ≡ a → told (Accepted groups splits) ≡ onAccepted figures a
+          → order ≡ cellsOf blankCell orderCells (λ (g : Groups). flatten (g .groups)) a → ends ≡ cellsOf blankCell endCells (λ (g : Groups). endsFrom 0 (g .groups)) a
+          → means ≡ cellsOf zero32 meanCells (λ (g : Groups). flatMap (meanOf (rule .dim) (rule .rows)) (g .groups)) a
+          → Behind groups splits order ends means
+      go (accepted g) e t o n m =
+          let z : figures g ≡ figuresOf groups splits = cc in
+          record { g = g; is = e; counted = ap (λ (f : Figures). f .groups) z; done = ap (λ (f : Figures). f .splits) z; ordered = o; ended = n; meant = m }
+      go (refused number) e t o n m = let z : _≡_ {A = ℕ} 0 1 = cc in absurd (omega arith)
+
+  module _ (rows-told : length (rule .rows) ≡ rows) {groups splits : ℕ} {order ends : List ℕ} {means : List Float} (b : Behind groups splits order ends means) where
+    abbrev gs : List (List ℕ)
+    gs = b .g .groups
+
+    abbrev lent : List ℕ
+    lent = orderCells ∷ endCells ∷ meanCells ∷ work
+
+    fits : Measured rows (rule .dim) orderCells endCells meanCells
+    fits =
+        let e = accepted-passed rule rows limit budget values lent (b .g) (b .is) in
+        measured rows (rule .dim) values orderCells endCells meanCells work (passed-exactly rule rows limit budget values lent .0 e .1)
+
+    listing : Listing limit rows gs
+    listing = call-listing rule rows limit budget values lent rows-told (b .g) (b .is)
+
+    order-is : order ≡ flatten gs
+    order-is = b .ordered ∙ padded-all blankCell orderCells (flatten gs) (listing .all ∙ sym (fits .order-cells))
+
+    end-at : (i : ℕ) → i < groups → getD ends i 0 ≡ getD (endsFrom 0 gs) i 0
+    end-at i h =
+        ap (λ (l : List ℕ). getD l i 0) (b .ended)
+        ∙ padded-at blankCell endCells (endsFrom 0 gs) i 0 (omega (arith, ends-length 0 gs, listing .most, fits .end-cells)) (omega (arith, ends-length 0 gs, b .counted))
+
+    start-at : (i : ℕ) → i < groups → getD (0 ∷ ends) i 0 ≡ length (flatten (take i gs))
+    start-at zero h = start-is 0 gs 0 (omega arith) ∙ omega arith
+    start-at (suc i) h = end-at i (omega arith) ∙ (start-is 0 gs (suc i) (omega (arith, b .counted)) ∙ omega arith)
+
+    size-at : (i : ℕ) → i < groups → getD ends i 0 ≡ getD (0 ∷ ends) i 0 + length (getD gs i [])
+    size-at i h = end-at i h ∙ (end-is 0 gs i (omega (arith, b .counted)) ∙ omega (arith, start-at i h))
+
+    group-is : (i : ℕ) → i < groups → groupAt order ends i ≡ getD gs i []
+    group-is i h =
+        let z : getD ends i 0 - getD (0 ∷ ends) i 0 ≡ length (getD gs i []) = omega (arith, size-at i h) in
+        ap (λ (l : List ℕ). groupAt l ends i) order-is ∙ rw (z, start-at i h) (flatten-part gs i (omega (arith, b .counted)))
+
+    ends-cells : Cells limit rows groups order ends
+    ends-cells = record {
+      once = λ x h. rw order-is (listing .once x h);
+      all = ap length order-is ∙ listing .all;
+      sized = λ i h. rw (group-is i h) (all-at (Sized limit) gs [] (listing .sized) i (omega (arith, b .counted)));
+      total = λ i h. rw (group-is i h) (size-at i h);
+      last = λ h.
+          let s : 0 < length gs = some-group gs (omega (arith, listing .all)) in
+          end-at (groups - 1) (omega (arith, b .counted)) ∙ rw (b .counted) at (listing .last h);
+      cells = ap length (b .ended) ∙ (padded-length blankCell endCells (endsFrom 0 gs) ∙ fits .end-cells);
+      blank = λ i h k.
+          ap (λ (l : List ℕ). getD l i 0) (b .ended)
+          ∙ padded-past blankCell endCells (endsFrom 0 gs) i 0 (omega (arith, ends-length 0 gs, b .counted)) (omega (arith, fits .end-cells));
+      most = omega (arith, listing .most, b .counted);
+      least = λ h. omega (arith, listing .least h, b .counted);
+    }
+
+    mean-cells : Means (rule .dim) rows groups (rule .rows) order ends means
+    mean-cells =
+        let dim = rule .dim in
+        let f : List ℕ → Row = meanOf dim (rule .rows) in
+        let n : length (flatMap f gs) ≡ groups * dim = flatMap-length f dim (mean-length dim (rule .rows)) gs ∙ rw (b .counted) in
+        let room : length (flatMap f gs) ≤ meanCells = rw (n, fits .mean-cells) (mul-le-mul-right dim (omega (arith, listing .most, b .counted))) in
+        record {
+          mean = λ i h.
+              let r = meanCells - length (flatMap f gs) in
+              let p : means ≡ flatMap f gs ++ replicate r zero32 = b .meant ∙ padded-is zero32 meanCells r (flatMap f gs) (omega (arith, room)) in
+              rw (p, group-is i h) (flatMap-part f dim (mean-length dim (rule .rows)) gs (replicate r zero32) i [] (omega (arith, b .counted)));
+          cells = ap length (b .meant) ∙ (padded-length zero32 meanCells (flatMap f gs) ∙ fits .mean-cells);
+          blank = λ i h k.
+              ap (λ (l : List Float). getD l i nan) (b .meant)
+              ∙ padded-past zero32 meanCells (flatMap f gs) i nan (omega (arith, n)) (omega (arith, fits .mean-cells));
+        }
+
+  -- A call that is told `Accepted` finds in its row order and group ends each row once, in groups of one row to the limit, and their ends.
+  pub call-cells : length (rule .rows) ≡ rows → (groups splits : ℕ) (order ends : List ℕ) (means : List Float) → Result (Accepted groups splits) order ends means
+      → Cells limit rows groups order ends
+  call-cells told-rows groups splits order ends means given = ends-cells told-rows (behind groups splits order ends means given)
+
+  -- And in its means those of these groups.
+  pub call-means : length (rule .rows) ≡ rows → (groups splits : ℕ) (order ends : List ℕ) (means : List Float) → Result (Accepted groups splits) order ends means
+      → Means (rule .dim) rows groups (rule .rows) order ends means
+  call-means told-rows groups splits order ends means given = mean-cells told-rows (behind groups splits order ends means given)
+
+-- ---- the answer and every cell follow from the call alone
+told-once : (r r′ : GroupingAnswer) → told r ≡ told r′ → r ≡ r′
+told-once (Accepted g s) (Accepted g′ s′) e =
+    let z : figuresOf g s ≡ figuresOf g′ s′ = cc in
+    rw (ap (λ (f : Figures). f .groups) z, ap (λ (f : Figures). f .splits) z)
+told-once (Accepted g s) (Refused number) e = let z : _≡_ {A = ℕ} 0 1 = cc in absurd (omega arith)
+told-once (Refused number) (Accepted g s) e = let z : _≡_ {A = ℕ} 0 1 = cc in absurd (omega arith)
+told-once (Refused number) (Refused number′) e = let z : number ≡ number′ = cc in rw z
+
+-- Any two results that a call may give are the same: answer, row order, ends and means.
+pub one-answer : {answer : Answer Groups} {dim : ℕ} {rows : List Row} {o e m : ℕ} {r r′ : GroupingAnswer} {order order′ ends ends′ : List ℕ} {means means′ : List Float}
+    → Gives answer dim rows o e m r order ends means → Gives answer dim rows o e m r′ order′ ends′ means′
+    → (r ≡ r′) × (order ≡ order′) × (ends ≡ ends′) × (means ≡ means′)
+one-answer {r = r} {r′ = r′} g g′ =
+    (told-once r r′ (g .result ∙ sym (g′ .result)), g .ordered ∙ sym (g′ .ordered), g .ended ∙ sym (g′ .ended), g .meant ∙ sym (g′ .meant))

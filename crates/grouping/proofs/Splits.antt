@@ -1,0 +1,127 @@
+-- One split, on lists: k-means, the rows gathered and balanced put together. Assumes nothing.
+use mathlib.Core.Path.{_≡_, refl, sym, ap}
+use mathlib.Core.Bool.{Bool, true, false}
+use mathlib.Core.List.{List, []}
+use Prim.Native.Nat.{ℕ, _*_, _≤_, _<_}
+use native.Mathlib.Nat.{mod-eq-of-lt, div-le-self}
+use native.Mathlib.Omega.{arith}
+use lib.Ieee.{Float, lt}
+use lib.ListN.{length, getD, length-map}
+use Rattle.sums.specs.Rows.{Row, rowsAt}
+use Rattle.sums.specs.Sums.{zero32}
+use Rattle.sums.specs.Cells.{Below}
+use Rattle.sums.specs.Draws.{cursorAt}
+use Rattle.sums.specs.declared.draws.Cursor.{Cursor}
+use Rattle.sums.proofs.Weighs.{Same}
+use Rattle.kmeans.specs.declared.config.KMeansConfig.{KMeansConfig}
+use Rattle.kmeans.specs.declared.restart.Kept.{Kept}
+use Rattle.kmeans.specs.KMeans.{Result, forGrouping}
+use Rattle.kmeans.specs.Inside.{Workspace, Ran}
+use Rattle.kmeans.proofs.Promises.{labels-below}
+use Rattle.grouping.specs.Parts.{gathered, sizesOf, flat}
+use Rattle.grouping.specs.Balance.{share}
+use Rattle.grouping.specs.Groups.{balanceIf, partsOf, madeBy}
+use Rattle.grouping.specs.Inside.{Balanced, BalancedIf, ruleOf, SplitRoom, Split}
+use Rattle.grouping.proofs.Lists.{below-same}
+use Rattle.grouping.proofs.Layouts.{sizes-total}
+use Rattle.grouping.proofs.Gathers.{gathered-length}
+use Rattle.grouping.proofs.BalancePromises.{balance-promise, gathered-same, gathered-parts}
+
+-- ---- balancing where the weight is above zero
+module _ {rows centroids : List Row} {weight : Float} {ps : List (List ℕ)} {part sizes : List ℕ} where
+  pub balanced-above : {n : ℕ} → lt zero32 weight ≡ true → Balanced rows centroids weight ps part sizes n → BalancedIf rows centroids weight ps part sizes
+  unfolding balanceIf
+  balanced-above e b = record { laid = rw e (b .laid); sized = rw e (b .sized) }
+
+  pub balanced-not : lt zero32 weight ≡ false → part ≡ flat ps → sizes ≡ sizesOf ps → BalancedIf rows centroids weight ps part sizes
+  unfolding balanceIf
+  balanced-not e p s = record { laid = rw e p; sized = rw e s }
+
+-- no row is lost or doubled
+balance-same : (b : Bool) (rows centroids : List Row) (sh : ℕ) (weight : Float) (ps : List (List ℕ)) → lt zero32 weight ≡ b → sh ≤ 4096
+    → Same (flat (balanceIf b rows centroids sh weight ps)) (flat ps)
+unfolding balanceIf
+balance-same true rows centroids sh weight ps e few = balance-promise rows centroids sh weight ps few e .rows
+balance-same false rows centroids sh weight ps e few = λ f. refl
+
+-- ---- the labels that k-means gives
+
+-- a cursor stands for its own place
+cursor-own : (draws : List ℕ) (cursor : Cursor) → cursor .at < length draws → cursor ≡ cursorAt draws (cursor .at)
+cursor-own draws cursor h = let f : ℕ → Cursor = λ n. record { at = n } in ap f (sym (mod-eq-of-lt h))
+
+-- each row of the group has a label, one of k, and so the rows gathered are the group's
+pub record Labelled (rows k : ℕ) (group labels : List ℕ) : Type 0 where
+  pub each : length group ≡ length labels
+  pub among : Below k labels
+  pub below : Below rows (flat (gathered k group labels))
+  pub whole : length (flat (gathered k group labels)) ≡ length group
+
+labelled-by : (rows k : ℕ) (group labels : List ℕ) → Below rows group → length group ≡ length labels → Below k labels → Labelled rows k group labels
+labelled-by rows k group labels inside e b = record {
+  each = e;
+  among = b;
+  below = below-same rows (flat (gathered k group labels)) group (gathered-same k group labels e b) inside;
+  whole = gathered-length k group labels e b;
+}
+
+pub labelled : {draws : List ℕ} {k dim : ℕ} {cursor : Cursor} {kept : Kept} {labels : List ℕ} {centroids : List Row} (rows : ℕ) (table : List Row) (group : List ℕ)
+    → cursor .at < length draws → 0 < k → k ≤ length group → Below rows group → Ran draws forGrouping k dim (rowsAt table group) cursor kept labels centroids
+    → Labelled rows k group labels
+labelled {draws} {k} {dim} {cursor} {kept} {labels} rows table group inside some enough below ran =
+    let l = length-map group (λ i. getD table i []) in
+    let e = ap (λ (r : Result). r .labels) (ran .steps (cursor .at) (cursor-own draws cursor inside) .0) in
+    let found : (length labels ≡ length group) × Below k labels
+    = rw e (rw l at (labels-below draws (cursor .at) forGrouping k dim (rowsAt table group) some (rw l enough))) in
+    labelled-by rows k group labels below (sym (found .0)) (found .1)
+
+-- ---- the split
+
+-- the slices of a split are those of a k-means run with room for its centroids
+pub split-space : {dim rows n k values copied labels gathered training own trainingOwn distances trialLabels places : ℕ}
+    → SplitRoom dim rows n k values copied labels gathered training own trainingOwn distances trialLabels places
+    → (config : KMeansConfig) (centroids : ℕ) → config ≡ forGrouping → centroids ≡ k * dim
+    → Workspace config dim labels k gathered centroids training own trainingOwn distances trialLabels places
+split-space s config centroids e c =
+    rw (e, c, s .label-cells)
+    (record {
+      some-dim = s .some-dim;
+      small-dim = s .small-dim;
+      some = s .some;
+      few = s .few;
+      enough = s .enough;
+      few-rows = s .few-rows;
+      few-points = omega arith;
+      some-block = omega arith;
+      value-cells = s .gathered-cells;
+      centroid-cells = refl;
+      training-cells = s .training-cells;
+      own-cells = s .own-cells;
+      training-own-cells = s .training-own-cells;
+      distance-cells = s .distance-cells;
+      trial-cells = s .trial-cells;
+      place-cells = s .place-cells;
+    })
+
+pub split-done : {draws : List ℕ} {k dim rows : ℕ} {group labels : List ℕ} {cursor : Cursor} {kept : Kept} {centroids : List Row} (table : List Row) (weight : Float) (part sizes : List ℕ)
+    → length group ≤ 4096 → Labelled rows k group labels → Ran draws forGrouping k dim (rowsAt table group) cursor kept labels centroids
+    → BalancedIf table centroids weight (gathered k group labels) part sizes → Split (ruleOf draws dim table k weight) rows group cursor (kept .cursor) part sizes
+unfolding partsOf madeBy
+split-done {draws} {k} {dim} {rows} {group} {labels} {cursor} {kept} {centroids} table weight part sizes few found ran b =
+    let ps = gathered k group labels in
+    let sh = share (length (flat ps)) (length ps) in
+    let small : sh ≤ 4096 = omega (arith, div-le-self (length (flat ps)) (length ps), found .whole) in
+    record {
+      inside = ran .inside;
+      below =
+          rw (b .laid)
+          (below-same rows (flat (balanceIf (lt zero32 weight) table centroids sh weight ps)) (flat ps) (balance-same (lt zero32 weight) table centroids sh weight ps refl small) (found .below));
+      sized = sizes-total _ part sizes (b .laid) (b .sized);
+      steps = λ n p.
+          let w = ran .steps n p in
+          let l = ap (λ (r : Result). r .labels) (w .0) in
+          let c = ap (λ (r : Result). r .centroids) (w .0) in
+          let laid = rw (found .whole, gathered-parts k group labels) at (b .laid) in
+          let sized = rw (found .whole, gathered-parts k group labels) at (b .sized) in
+          (rw (← l, ← c) laid, (rw (← l, ← c) sized, w .1));
+    }

@@ -1,0 +1,59 @@
+-- Grouping on what a caller lends (01, 'Ranges and refusal numbers'). Lengths stand for the lent slices.
+use mathlib.Core.Path.{_≡_}
+use mathlib.Core.Bool.{Bool, true, _&&_}
+use mathlib.Core.List.{List, [], _∷_, flatMap, flatten}
+use Prim.Native.Nat.{ℕ, _*_}
+use lib.ListN.{length, replicate}
+use lib.Ieee.{Float}
+use Rattle.sums.specs.Rows.{Row, rowsFrom}
+use Rattle.sums.specs.Sums.{zero32}
+use Rattle.sums.specs.Refusals.{Answer, accepted, refused, within, sameAll, lowest, unless, onAccepted, cellsOf, blankCell}
+use Rattle.grouping.specs.declared.call.GroupingAnswer.{GroupingAnswer}
+use Rattle.grouping.specs.declared.call.GroupingAnswer.the-variants.{Accepted, Refused}
+use Rattle.grouping.specs.Groups.{Rule, Groups, grouping, endsFrom, meanOf}
+
+unfoldable pub rangesFit : ℕ → ℕ → ℕ → ℕ → ℕ → Bool
+rangesFit rows dim limit branching budget =
+    within 0 4096 rows && within 1 64 dim && within 0 4096 limit && within 1 64 branching && within 0 8192 budget
+
+-- the lengths of what is lent: the row order, the group ends and the means; then the work slices, in docs/BUFFERS.md's order
+abbrev pub lengthsOf : ℕ → ℕ → List ℕ
+lengthsOf rows dim =
+    let cells = rows * dim in
+    rows ∷ rows ∷ cells ∷ rows ∷ rows ∷ rows ∷ cells ∷ cells ∷ rows ∷ rows ∷ rows ∷ rows ∷ rows ∷ []
+
+unfoldable pub lengthsFit : ℕ → ℕ → ℕ → List ℕ → Bool
+lengthsFit rows dim values lent = sameAll (values ∷ lent) (rows * dim ∷ lengthsOf rows dim)
+
+-- 1: a number out of range; 2: a slice is not as long as they say; 4: no draws, or more than 4,096; 3 is k-means' alone
+unfoldable pub groupingRefusal : ℕ → ℕ → ℕ → ℕ → ℕ → ℕ → ℕ → List ℕ → ℕ
+groupingRefusal rows dim limit branching budget draws values lent =
+    lowest (rangesFit rows dim limit branching budget ∷ lengthsFit rows dim values lent ∷ true ∷ within 1 4096 draws ∷ [])
+
+unfoldable pub groupingCall : Rule → ℕ → ℕ → ℕ → ℕ → List ℕ → Answer Groups
+groupingCall rule rows limit budget values lent =
+    unless (groupingRefusal rows (rule .dim) limit (rule .branching) budget (length (rule .draws)) values lent) (grouping rule limit budget)
+
+-- what an acceptance carries: the number of groups, and of splits
+pub record Figures : Type 0 where
+  pub groups : ℕ
+  pub splits : ℕ
+
+abbrev pub figures : Groups → Figures
+figures g = record { groups = length (g .groups); splits = g .splits }
+
+-- each case of the code's enum in 01's terms
+abbrev pub told : GroupingAnswer → Answer Figures
+told (Accepted groups splits) = accepted (record { groups = groups; splits = splits })
+told (Refused number) = refused number
+
+-- a call's whole result: the answer, the row order, the group ends and the means
+pub record Gives (answer : Answer Groups) (dim : ℕ) (rows : List Row) (orderCells endCells meanCells : ℕ) (r : GroupingAnswer) (order ends : List ℕ) (means : List Float) : Type 0 where
+  pub result : told r ≡ onAccepted figures answer
+  pub ordered : order ≡ cellsOf blankCell orderCells (λ (g : Groups). flatten (g .groups)) answer
+  pub ended : ends ≡ cellsOf blankCell endCells (λ (g : Groups). endsFrom 0 (g .groups)) answer
+  pub meant : means ≡ cellsOf zero32 meanCells (λ (g : Groups). flatMap (meanOf dim rows) (g .groups)) answer
+
+-- a work slice after every call
+abbrev pub Cleared : {A : Type 0} → A → List A → Type 0
+Cleared zero cells = cells ≡ replicate (length cells) zero

@@ -1,0 +1,87 @@
+// One split of a group (the source's split_cluster).
+ghost use mathlib.Core.Path.{_≡_};
+ghost use Prim.Native.Nat.{ℕ, _*_, _≤_, _<_};
+ghost use lib.ListN.{length};
+ghost use Rattle.sums.specs.Rows.{rowsFrom};
+ghost use Rattle.sums.specs.Cells.{Below};
+ghost use mathlib.Core.List.{List};
+ghost use Rattle.grouping.specs.Parts.{sizesOf, flat};
+ghost use Rattle.grouping.specs.Inside.{total, ruleOf, SplitRoom, Split, BalancedIf};
+use crate::balance;
+use crate::gather;
+use kmeans::config::KMeansConfig;
+use kmeans::restart;
+use kmeans::training;
+use sums::cells;
+use sums::draws::Cursor;
+
+// Balancing where the weight is above zero, which a NaN is not.
+fn balance_if(
+    values: &[f32],
+    dim: usize,
+    rows: usize,
+    centroids: &[f32],
+    weight: f32,
+    part: &mut [u16],
+    sizes: &mut [u16],
+)
+    requires { ⌜ (length (now values) ≡ rows * dim) × (length (now centroids) ≡ length (now sizes) * dim) × Below rows (now part) ⌝ }
+    requires { ⌜ (0 < length (now sizes)) × (length (now sizes) ≤ length (now part)) × (total (now sizes) ≡ length (now part)) × (length (now part) ≤ 4096) ⌝ }
+    ensures { λ _. ⌜ ((ps : List (List ℕ)) → now (part .entry) ≡ flat ps → now (sizes .entry) ≡ sizesOf ps → BalancedIf (rowsFrom dim rows (now (values .entry))) (rowsFrom dim (length (now (sizes .entry))) (now (centroids .entry))) weight ps (now (part .exit)) (now (sizes .exit))) ⌝ }
+{
+    if 0.0f32 < weight {
+        balance::balance_clusters(values, dim, rows, centroids, weight, part, sizes);
+    }
+}
+
+// K-means over the group's rows in listed order, the rows gathered per label, and balancing. `part` is the group's stretch of the row
+// order: afterwards it holds the parts, the last first, and `sizes` how many rows each part has.
+pub fn split_cluster(
+    values: &[f32],
+    dim: usize,
+    rows: usize,
+    weight: f32,
+    draws: &[u32],
+    cursor: Cursor,
+    part: &mut [u16],
+    sizes: &mut [u16],
+    copied: &mut [u16],
+    labels: &mut [u16],
+    gathered: &mut [f32],
+    training: &mut [f32],
+    own: &mut [f32],
+    training_own: &mut [f32],
+    distances: &mut [f32],
+    trial_labels: &mut [u16],
+    places: &mut [u16],
+) -> Cursor
+    requires { ⌜ SplitRoom dim rows (length (now part)) (length (now sizes)) (length (now values)) (length (now copied)) (length (now labels)) (length (now gathered)) (length (now training)) (length (now own)) (length (now «training_own»)) (length (now distances)) (length (now «trial_labels»)) (length (now places)) ⌝ }
+    requires { ⌜ Below rows (now part) × (cursor .at < length (now draws)) ⌝ }
+    ensures { λ r. ⌜ Split (ruleOf (now (draws .entry)) dim (rowsFrom dim rows (now (values .entry))) (length (now (sizes .entry))) weight) rows (now (part .entry)) cursor r (now (part .exit)) (now (sizes .exit)) ⌝ }
+{
+    let k = sizes.len();
+    let width = k * dim;
+    let mut centroids = [0.0f32; 4096];
+    training::gather_rows(values, dim, rows, part, gathered);
+    let kept = restart::run_kmeans_flat(
+        KMeansConfig::for_grouping(),
+        k,
+        dim,
+        draws,
+        cursor,
+        gathered,
+        labels,
+        &mut centroids[..width],
+        training,
+        own,
+        training_own,
+        distances,
+        trial_labels,
+        places,
+    );
+    cells::copy_cells(copied, part);
+    gather::gather(part, copied, labels, sizes);
+    balance_if(values, dim, rows, &centroids[..width], weight, part, sizes);
+    let next = kept.cursor;
+    next
+}
