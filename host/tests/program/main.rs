@@ -1,0 +1,7 @@
+//! The built program, run as an operator runs it: what it prints, and how it ends.
+
+mod batch;
+mod common;
+mod help;
+mod list;
+mod nearest;

@@ -1,0 +1,110 @@
+//! `families label` and `families closure`, over the proved library.
+
+use crate::common::{Folder, Run};
+
+fn run(test: &str, rows: &str, centroids: &str, words: &[&str]) -> Run {
+    let folder = Folder::new(test);
+    folder.write("rows.csv", rows);
+    folder.write("c.csv", centroids);
+    let mut all = vec![words[0], "rows.csv", "--centroids", "c.csv"];
+    all.extend(&words[1..]);
+    folder.run(&all)
+}
+
+#[test]
+fn p5_to_p7_are_labelled() {
+    let p5 = run("label_p5", "1\n", "1\n1\n", &["label"]);
+    assert_eq!(p5.text(), "0: 0\n");
+    let p6 = run("label_p6", "2\n", "nan\n2\n", &["label", "--not-finite"]);
+    assert_eq!(p6.text(), "0: 1\n");
+    let p7 = run("label_p7", "NaN\n", "1\n2\n", &["label", "--not-finite"]);
+    assert_eq!(p7.text(), "0: 0\n");
+}
+
+#[test]
+fn p8_and_p9_are_listed() {
+    let closure = |test: &str, replicas: &str, epsilon: &str| {
+        let words = ["closure", "--replicas", replicas, "--epsilon", epsilon];
+        run(test, "0\n", "2\n1\n-1\n", &words).text().to_string()
+    };
+    assert_eq!(closure("closure_p8", "3", "0"), "0: 1 2\n");
+    assert_eq!(closure("closure_p8_wide", "3", "1"), "0: 1 2 0\n");
+    assert_eq!(closure("closure_p9", "0", "0"), "0:\n");
+}
+
+#[test]
+fn every_row_is_answered_under_its_serial() {
+    let rows = "serial,low,high\nA1,0,0\n\"B 2\",9,9\n";
+    let centroids = "10,10\n0,1\n";
+    let labels = run("label_serials", rows, centroids, &["label", "--dim", "2"]);
+    assert_eq!(labels.text(), "A1: 1\n\"B 2\": 0\n");
+    let words = ["closure", "--replicas", "1", "--epsilon", "0"];
+    let offered = run("closure_serials", rows, centroids, &words);
+    assert_eq!(offered.text(), "A1: 1\n\"B 2\": 0\n");
+}
+
+#[test]
+fn the_sample_falls_into_its_four_kinds() {
+    let folder = Folder::new("label_sample");
+    let samples = concat!(env!("CARGO_MANIFEST_DIR"), "/../samples/");
+    let rows = format!("{samples}readings.csv");
+    let centroids = format!("{samples}centroids.csv");
+    let run = folder.run(&["label", &rows, "--centroids", &centroids]);
+    let of_kind = |kind: &str| {
+        run.text()
+            .lines()
+            .filter(|line| line.ends_with(kind))
+            .count()
+    };
+    assert_eq!([": 0", ": 1", ": 2", ": 3"].map(of_kind), [14, 11, 9, 6]);
+}
+
+#[test]
+fn refusals_end_by_1_and_print_nothing() {
+    let label = |test: &str, centroids: &str, words: &[&str]| run(test, "1\n", centroids, words);
+    label("label_range", "1\n", &["label", "--dim", "65"]).fails(1, &["refused 1: "]);
+    label("label_none", "", &["label"]).fails(1, &["refused 1: "]);
+    label("label_many", &"1\n".repeat(65), &["label"]).fails(1, &["refused 1: "]);
+    label("label_length", "1,2\n", &["label"]).fails(1, &["refused 2: "]);
+    label("label_dim", "1\n", &["label", "--dim", "2"]).fails(1, &["refused 2: "]);
+
+    let words = [
+        "closure",
+        "--replicas",
+        "0",
+        "--epsilon",
+        "0",
+        "--not-finite",
+    ];
+    let rows = "serial,low\nA1,1\nA2,nan\n";
+    let refused = run("closure_nan", rows, "1\n2\n", &words);
+    refused.fails(1, &["A2", "refused 5: "]);
+    run("closure_length", "1\n", "1,2\n", &words).fails(1, &["refused 2: "]);
+}
+
+#[test]
+fn closure_takes_no_centroids() {
+    let words = ["closure", "--replicas", "1", "--epsilon", "0"];
+    assert_eq!(run("closure_none", "1\n2\n", "", &words).text(), "0:\n1:\n");
+}
+
+#[test]
+fn not_finite_readings_are_taken_only_by_choice() {
+    run("label_finite", "nan\n", "1\n", &["label"]).fails(3, &["rows.csv: line 1 column 1: "]);
+    let words = ["label", "--not-finite"];
+    run("label_overflow", "1\n", "1\n1e39\n", &words).fails(3, &["c.csv: line 2 column 1: "]);
+}
+
+#[test]
+fn bad_usage_ends_by_2() {
+    let folder = Folder::new("nearest_usage");
+    folder.write("rows.csv", "1\n");
+    folder
+        .run(&["label", "rows.csv"])
+        .fails(2, &["--centroids"]);
+    let words = ["closure", "--epsilon", "0", "--replicas", "65536"];
+    run("closure_usage", "1\n", "1\n", &words).fails(2, &["--replicas"]);
+    run("closure_missing", "1\n", "1\n", &words[..3]).fails(2, &["--replicas", "missing"]);
+    let words = ["label", "rows.csv", "--centroids", "none.csv"];
+    folder.run(&words).fails(4, &["none.csv"]);
+}
