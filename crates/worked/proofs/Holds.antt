@@ -1,11 +1,16 @@
 -- Every line of the table holds, by computing.
 use mathlib.Core.Path.{refl}
+use Rattle.grouping.specs.Groups.{splitFrom}
 use Rattle.worked.specs.Table.{Table}
 use Rattle.worked.proofs.Opened.{opened}
+use Rattle.worked.proofs.Settled.{P1-parts, P2-parts, P2-refused, P10-settles}
 
 pub table-holds : Table
-unfolding opened
+unfolding opened splitFrom
 table-holds = record {
+  P1 = rw P1-parts;
+  P2 = rw (P2-refused 3 0);
+  P2-balanced = rw P2-parts;
   P3-share = refl;
   P3-allowance = refl;
   P3-sizes = refl;
@@ -17,5 +22,8 @@ table-holds = record {
   P8 = refl;
   P8-wide = refl;
   P9 = refl;
-  P10 = refl;
+  P10 = rw P10-settles;
+  P11 = λ a b c weight. refl;
+  P12 = λ a b c weight. refl;
+  P12-two-rows = λ a b weight. refl;
 }

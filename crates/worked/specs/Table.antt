@@ -1,22 +1,25 @@
--- Document 01, 'Bench examples', P3 to P10: each an equation between what the definitions give and the number that the document gives.
+-- Document 01, 'Bench examples', P1 to P12: each an equation between what the definitions give and the number that the document gives.
 -- Every side is computed, down to single operations of IEEE 754.
 use mathlib.Core.Path.{_≡_}
 use mathlib.Core.Bool.{true, false}
 use mathlib.Core.List.{List, [], _∷_}
 use Prim.Native.Nat.{ℕ}
 use lib.IntN.{pos, negsuc}
-use lib.ListN.{replicate}
+use lib.ListN.{length, replicate}
 use lib.Ieee.{Float, fin, nan}
+use Rattle.sums.specs.Rows.{rowsFrom}
 use Rattle.sums.specs.Sums.{zero32, one32, two32}
-use Rattle.sums.specs.Refusals.{accepted, refused}
+use Rattle.sums.specs.Refusals.{Answer, accepted, refused}
 use Rattle.labels.specs.Call.{labelCall}
 use Rattle.kmeans.specs.KMeans.{usual}
 use Rattle.kmeans.specs.Call.{lentOf, kmeansCall}
 use Rattle.closure.specs.Call.{closureCall}
 use Rattle.grouping.specs.Parts.{sizesOf}
 use Rattle.grouping.specs.Balance.{share, allowed, balance, moves, toward}
+use Rattle.grouping.specs.Groups.{Groups}
+use Rattle.grouping.specs.Call.{lengthsOf, groupingCall}
 
-abbrev half : Float
+abbrev pub half : Float
 half = fin false 1 (negsuc 0)
 
 abbrev quarter : Float
@@ -25,15 +28,36 @@ quarter = fin false 1 (negsuc 1)
 abbrev minusOne : Float
 minusOne = fin true 1 (pos 0)
 
+abbrev pub three : Float
+three = fin false 3 (pos 0)
+
+abbrev pub ten : Float
+ten = fin false 5 (pos 1)
+
+abbrev pub eleven : Float
+eleven = fin false 11 (pos 0)
+
 -- rows of one reading, all alike, and as many centroids
-abbrev alike : ℕ → List (List Float)
+abbrev pub alike : ℕ → List (List Float)
 alike n = replicate n (one32 ∷ [])
 
 -- all rows in the first part, and `others` empty ones
 abbrev parts : ℕ → ℕ → List (List ℕ)
 parts n others = replicate n 0 ∷ replicate others []
 
+-- a grouping of rows of one reading: draws [0], and all slices as long as they are to be
+abbrev batch : List Float → ℕ → ℕ → Float → ℕ → Answer Groups
+batch values limit branching weight budget =
+    let n = length values in
+    groupingCall (record { draws = 0 ∷ []; dim = 1; rows = rowsFrom 1 n values; branching = branching; weight = weight }) n limit budget n (lengthsOf n 1)
+
+abbrev pub grouped : List (List ℕ) → ℕ → Answer Groups
+grouped groups splits = accepted (record { groups = groups; splits = splits })
+
 pub record Table : Type 0 where
+  pub P1 : batch (zero32 ∷ one32 ∷ ten ∷ eleven ∷ []) 2 2 zero32 4 ≡ grouped ((2 ∷ 3 ∷ []) ∷ (0 ∷ 1 ∷ []) ∷ []) 1
+  pub P2 : batch (replicate 5 three) 4 2 zero32 3 ≡ refused 7
+  pub P2-balanced : batch (replicate 5 three) 4 2 half 3 ≡ grouped ((0 ∷ 1 ∷ []) ∷ (2 ∷ 3 ∷ 4 ∷ []) ∷ []) 1
   pub P3-share : share 40 2 ≡ 20
   pub P3-allowance : allowed 20 quarter ≡ 25
   pub P3-sizes : sizesOf (balance (alike 1) (alike 2) 20 quarter (parts 40 1)) ≡ 30 ∷ 10 ∷ []
@@ -47,3 +71,7 @@ pub record Table : Type 0 where
   pub P9 : closureCall one32 0 1 3 (zero32 ∷ []) (two32 ∷ one32 ∷ minusOne ∷ []) 3 ≡ accepted []
   pub P10 : kmeansCall 2 1 1 usual (0 ∷ []) (zero32 ∷ one32 ∷ []) (lentOf 2 1 2 2 2 2 2 2)
       ≡ accepted (record { labels = 0 ∷ 0 ∷ []; centroids = (half ∷ []) ∷ []; objective = half; restart = 0 })
+  -- 01 gives no readings and no weight here: whatever they are
+  pub P11 : (a b c weight : Float) → batch (a ∷ b ∷ c ∷ []) 2 4 weight 0 ≡ refused 6
+  pub P12 : (a b c weight : Float) → batch (a ∷ b ∷ c ∷ []) 2 2 weight 0 ≡ refused 7
+  pub P12-two-rows : (a b weight : Float) → batch (a ∷ b ∷ []) 2 2 weight 0 ≡ grouped ((0 ∷ 1 ∷ []) ∷ []) 0

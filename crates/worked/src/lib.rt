@@ -3,7 +3,7 @@ ghost use mathlib.Core.Path.{_≡_};
 
 // How many lines the table has.
 pub fn examples() -> u32
-    ensures { λ r. ⌜ r ≡ 12 ⌝ }
+    ensures { λ r. ⌜ r ≡ 18 ⌝ }
 {
-    12
+    18
 }

@@ -1,0 +1,93 @@
+-- Runs that settle: the iterations left after that repeat, so that only the first few have to be computed.
+use mathlib.Core.Path.{_≡_, refl}
+use mathlib.Core.Bool.{false}
+use mathlib.Core.List.{List, [], _∷_}
+use Prim.Native.Nat.{ℕ, zero, suc, _+_}
+use native.Mathlib.Nat.{mod-one}
+use native.Mathlib.Numerals.{unary-clauses}
+use lib.IntN.{negsuc}
+use lib.ListN.{replicate}
+use lib.Ieee.{Float, fin, lt}
+use Rattle.sums.specs.Tables.{upTo}
+use Rattle.sums.specs.Rows.{Row}
+use Rattle.sums.specs.Sums.{zero32, one32}
+use Rattle.sums.specs.Refusals.{refused}
+use Rattle.labels.specs.Label.{nearests}
+use Rattle.kmeans.specs.KMeans.{Fit, update, iterate}
+use Rattle.kmeans.proofs.Iterations.{fixed}
+use Rattle.grouping.specs.Balance.{share}
+use Rattle.grouping.specs.Groups.{Rule, balanceIf, partsOf, madeBy, splitFrom}
+use Rattle.worked.specs.Table.{half, three, ten, eleven}
+use Rattle.worked.proofs.Opened.{opened}
+
+module _ (draws : List ℕ) (k dim block : ℕ) (training : List Row) where
+  -- the first few iterations give a fit that another one leaves as it is
+  settled : (left early : ℕ) (fit last : Fit) → iterate draws k dim block training early fit ≡ last
+      → update draws k dim block training (last .made) (nearests (last .centroids) training) ≡ last
+      → iterate draws k dim block training (left + early) fit ≡ last
+  unfolding iterate
+  settled left zero fit last e f = rw e (simp unary-clauses (fixed draws k dim block training left last f))
+  settled left (suc early) fit last e f =
+      simp unary-clauses (settled left early (update draws k dim block training (fit .made) (nearests (fit .centroids) training)) last e f)
+
+abbrev pub at : List Row → ℕ → Fit
+at centroids n = record { centroids = centroids; made = n }
+
+-- the rule of the table's groupings with branching 2
+abbrev pub ruled : List Row → Float → Rule
+ruled rows weight = record { draws = 0 ∷ []; dim = 1; rows = rows; branching = 2; weight = weight }
+
+-- ---- P1
+
+abbrev pub four : List Row
+four = (zero32 ∷ []) ∷ (one32 ∷ []) ∷ (ten ∷ []) ∷ (eleven ∷ []) ∷ []
+
+-- the first two rows are picked, and two iterations reach the means of both pairs
+abbrev picked : Fit
+picked = at ((zero32 ∷ []) ∷ (one32 ∷ []) ∷ []) 2
+
+abbrev means : Fit
+means = at ((half ∷ []) ∷ (fin false 21 (negsuc 0) ∷ []) ∷ []) 2
+
+P1-settles : iterate (0 ∷ []) 2 1 32768 four 100 picked ≡ means
+unfolding opened iterate
+P1-settles = settled (0 ∷ []) 2 1 32768 four 98 2 picked means refl refl
+
+pub P1-parts : partsOf (ruled four zero32) 0 (upTo 4) ≡ (0 ∷ 1 ∷ []) ∷ (2 ∷ 3 ∷ []) ∷ []
+unfolding opened partsOf
+P1-parts = rw P1-settles
+
+-- ---- P2
+
+abbrev five : List Row
+five = replicate 5 (three ∷ [])
+
+-- all rows are alike, so the first iteration changes nothing, whatever was drawn before
+abbrev equal : ℕ → Fit
+equal n = at (replicate 2 (three ∷ [])) n
+
+P2-settles : (n : ℕ) → iterate (0 ∷ []) 2 1 32768 five 100 (equal n) ≡ equal n
+unfolding opened iterate
+P2-settles n = settled (0 ∷ []) 2 1 32768 five 100 0 (equal n) (equal n) refl refl
+
+-- and k-means leaves them together
+P2-together : (weight : Float) (n : ℕ) → partsOf (ruled five weight) n (upTo 5)
+    ≡ balanceIf (lt zero32 weight) five (replicate 2 (three ∷ [])) (share 5 2) weight (upTo 5 ∷ [] ∷ [])
+unfolding opened partsOf
+P2-together weight n = simp mod-one (rw P2-settles)
+
+pub P2-parts : partsOf (ruled five half) 0 (upTo 5) ≡ (2 ∷ 3 ∷ 4 ∷ []) ∷ (0 ∷ 1 ∷ []) ∷ []
+unfolding opened
+P2-parts = P2-together half 0
+
+-- with no weight so does every split, until the budget is spent
+pub P2-refused : (left n : ℕ) → splitFrom (partsOf (ruled five zero32)) (madeBy (ruled five zero32)) 4 2 left n (upTo 5 ∷ []) ≡ refused 7
+unfolding opened splitFrom
+P2-refused zero n = refl
+P2-refused (suc left) n = rw (P2-together zero32 n, P2-refused left (madeBy (ruled five zero32) n (upTo 5)))
+
+-- ---- P10
+
+pub P10-settles : iterate (0 ∷ []) 1 1 32768 ((zero32 ∷ []) ∷ (one32 ∷ []) ∷ []) 25 (at ((zero32 ∷ []) ∷ []) 1) ≡ at ((half ∷ []) ∷ []) 1
+unfolding opened iterate
+P10-settles = settled (0 ∷ []) 1 1 32768 ((zero32 ∷ []) ∷ (one32 ∷ []) ∷ []) 24 1 (at ((zero32 ∷ []) ∷ []) 1) (at ((half ∷ []) ∷ []) 1) refl refl
