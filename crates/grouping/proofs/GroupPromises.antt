@@ -18,7 +18,7 @@ use Rattle.sums.proofs.Weighs.{weigh, one, countOf, Same, weigh-append, same-le
 use Rattle.sums.proofs.Picks.{below-up}
 use Rattle.sums.proofs.Counts.{count-below}
 use Rattle.sums.proofs.Pairs.{All, all-weaken}
-use Rattle.grouping.specs.Parts.{flat}
+use Rattle.parts.specs.Parts.{flat}
 use Rattle.grouping.specs.Groups.{Groups, waits, pushed, after, more, groupFrom, endsFrom}
 use Rattle.grouping.proofs.Stretches.{flatten-snoc, end-is}
 use Rattle.grouping.proofs.Steps.{Full, full-pushed, full-count, flatten-pushed, group-end, group-list, group-six, group-seven, group-split, group-all}

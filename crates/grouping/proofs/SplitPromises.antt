@@ -17,10 +17,10 @@ use Rattle.sums.proofs.Counts.{Distinct, count-up, count-below}
 use Rattle.sums.proofs.Picks.{below-up}
 use Rattle.kmeans.specs.KMeans.{Result, kmeans, forGrouping}
 use Rattle.kmeans.proofs.Promises.{labels-below}
-use Rattle.grouping.specs.Parts.{gathered, flat}
-use Rattle.grouping.specs.Balance.{share, allowed, moves, toward}
+use Rattle.parts.specs.Parts.{gathered, flat}
+use Rattle.parts.specs.Balance.{share, allowed, moves, toward}
 use Rattle.grouping.specs.Groups.{Rule, balanceIf, partsOf, madeBy, waits}
-use Rattle.grouping.proofs.BalancePromises.{Promise, balance-promise, gathered-same, gathered-parts}
+use Rattle.parts.proofs.BalancePromises.{Promise, balance-promise, gathered-same, gathered-parts}
 use Rattle.grouping.proofs.GroupPromises.{Comes, one-flat, comes-within}
 
 -- ---- one split of a group after n draws

@@ -18,14 +18,15 @@ use Rattle.kmeans.specs.declared.restart.Kept.{Kept}
 use Rattle.kmeans.specs.KMeans.{Result, forGrouping}
 use Rattle.kmeans.specs.Inside.{Workspace, Ran}
 use Rattle.kmeans.proofs.Promises.{labels-below}
-use Rattle.grouping.specs.Parts.{gathered, sizesOf, flat}
-use Rattle.grouping.specs.Balance.{share}
+use Rattle.parts.specs.Parts.{gathered, sizesOf, flat}
+use Rattle.parts.specs.Balance.{share}
 use Rattle.grouping.specs.Groups.{balanceIf, partsOf, madeBy}
-use Rattle.grouping.specs.Inside.{Balanced, BalancedIf, ruleOf, SplitRoom, Split}
-use Rattle.grouping.proofs.Lists.{below-same}
-use Rattle.grouping.proofs.Layouts.{sizes-total}
-use Rattle.grouping.proofs.Gathers.{gathered-length}
-use Rattle.grouping.proofs.BalancePromises.{balance-promise, gathered-same, gathered-parts}
+use Rattle.parts.specs.Inside.{Balanced}
+use Rattle.grouping.specs.Inside.{BalancedIf, ruleOf, SplitRoom, Split}
+use Rattle.parts.proofs.Lists.{below-same}
+use Rattle.parts.proofs.Layouts.{sizes-total}
+use Rattle.parts.proofs.Gathers.{gathered-length}
+use Rattle.parts.proofs.BalancePromises.{balance-promise, gathered-same, gathered-parts}
 
 -- ---- balancing where the weight is above zero
 module _ {rows centroids : List Row} {weight : Float} {ps : List (List ℕ)} {part sizes : List ℕ} where

@@ -6,7 +6,8 @@ use native.Mathlib.Numerals.{add-one}
 use native.Mathlib.Omega.{arith}
 use lib.ListN.{length, take, drop, set, getD, length-append, length-take, length-set, drop-of-length-le}
 use lib.Seq.{drop-cons, take-suc-set, length-take-le, append-snoc}
-use Rattle.grouping.specs.Inside.{total, pushes}
+use Rattle.parts.specs.Inside.{total}
+use Rattle.grouping.specs.Inside.{pushes}
 
 -- General: a list written from the front; `rest` is left to write.
 pub record Writing (whole s₀ s : List ℕ) (i : ℕ) (rest : List ℕ) : Type 0 where

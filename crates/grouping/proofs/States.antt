@@ -21,9 +21,10 @@ use Rattle.sums.proofs.Picks.{below-up}
 use Rattle.sums.proofs.Belows.{below-take, below-drop, below-append}
 use Rattle.sums.proofs.Refusing.{padded-none, padded-more}
 use Rattle.sums.proofs.Pairs.{All, all-append}
-use Rattle.grouping.specs.Parts.{flat, sizesOf}
+use Rattle.parts.specs.Parts.{flat, sizesOf}
 use Rattle.grouping.specs.Groups.{Rule, Groups, partsOf, madeBy, waits, pushed, after, groupFrom, grouping, endsFrom}
-use Rattle.grouping.specs.Inside.{total, tops, pushes, ruleOf, SplitRoom, Split, GroupRoom, Listed, Grouped}
+use Rattle.parts.specs.Inside.{total}
+use Rattle.grouping.specs.Inside.{tops, pushes, ruleOf, SplitRoom, Split, GroupRoom, Listed, Grouped}
 use Rattle.grouping.specs.declared.call.GroupingAnswer.the-variants.{Accepted, Refused}
 use Rattle.grouping.proofs.Stretches.{flatten-snoc, mid-at, put-at, ends-length, ends-snoc}
 use Rattle.grouping.proofs.Steps.{Full, full-pushed, full-count, flatten-pushed, plus, group-end, group-list, group-six, group-seven, group-split, sofar-none, sofar-list, sofar-more, sofar-end}

@@ -9,7 +9,7 @@ use lib.Dec.{ltb, leb}
 use lib.ListN.{length, length-append}
 use Rattle.sums.specs.Refusals.{Answer, accepted, refused}
 use Rattle.sums.proofs.Pairs.{All}
-use Rattle.grouping.specs.Parts.{flat}
+use Rattle.parts.specs.Parts.{flat}
 use Rattle.grouping.specs.Groups.{Groups, waits, pushed, after, more, front, back, splitFrom, groupFrom}
 
 -- ---- the waiting groups

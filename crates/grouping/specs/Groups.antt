@@ -10,8 +10,8 @@ use Rattle.sums.specs.Rows.{Row, rowsAt}
 use Rattle.sums.specs.Sums.{zero32, count32, addRow, zeroRow}
 use Rattle.sums.specs.Refusals.{Answer, accepted, refused}
 use Rattle.kmeans.specs.KMeans.{kmeans, forGrouping}
-use Rattle.grouping.specs.Parts.{gathered}
-use Rattle.grouping.specs.Balance.{share, balance}
+use Rattle.parts.specs.Parts.{gathered}
+use Rattle.parts.specs.Balance.{share, balance}
 
 -- what stays the same in all splits of a call: the draws, the readings, branching and weight
 pub record Rule : Type 0 where

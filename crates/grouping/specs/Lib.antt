@@ -1,6 +1,4 @@
--- 01, 'Grouping' and 'Balancing', as definitions: one split, the waiting groups, the call with its refusals, and what the functions inside say.
-pub mod Parts
-pub mod Balance
+-- 01, 'Grouping', as definitions: one split, the waiting groups, the call with its refusals, and what the functions inside say.
 pub mod Groups
 pub mod Call
 pub mod Inside

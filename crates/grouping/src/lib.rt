@@ -1,7 +1,5 @@
-// Grouping (the source's clustering.rs): gathering, balancing, splitting, the waiting groups, means.
-pub mod balance;
+// Grouping (the source's clustering.rs): splitting, the waiting groups, means, the call.
 pub mod call;
-pub mod gather;
 pub mod means;
 pub mod split;
 pub mod waiting;

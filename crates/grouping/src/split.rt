@@ -5,13 +5,14 @@ ghost use lib.ListN.{length};
 ghost use Rattle.sums.specs.Rows.{rowsFrom};
 ghost use Rattle.sums.specs.Cells.{Below};
 ghost use mathlib.Core.List.{List};
-ghost use Rattle.grouping.specs.Parts.{sizesOf, flat};
-ghost use Rattle.grouping.specs.Inside.{total, ruleOf, SplitRoom, Split, BalancedIf};
-use crate::balance;
-use crate::gather;
+ghost use Rattle.parts.specs.Parts.{sizesOf, flat};
+ghost use Rattle.parts.specs.Inside.{total};
+ghost use Rattle.grouping.specs.Inside.{ruleOf, SplitRoom, Split, BalancedIf};
 use kmeans::config::KMeansConfig;
 use kmeans::restart;
 use kmeans::training;
+use parts::balance;
+use parts::gather;
 use sums::cells;
 use sums::draws::Cursor;
 

@@ -14,8 +14,8 @@ use Rattle.kmeans.specs.KMeans.{target, trainingIf, trainingDraws, countsFrom, 
 use Rattle.kmeans.specs.Call.{rangesFit, lengthsFit, kmeansRefusal, kmeansCall}
 use Rattle.closure.specs.Closure.{nearer, reachOf, listed, closure, anyNan, unordered}
 use Rattle.closure.specs.Call.{closureRefusal, refuseNan, answered, closureCall}
-use Rattle.grouping.specs.Parts.{having, flat}
-use Rattle.grouping.specs.Balance.{allowance, allowed, seek, closestFrom, closestOf, balanced, moves}
+use Rattle.parts.specs.Parts.{having, flat}
+use Rattle.parts.specs.Balance.{allowance, allowed, seek, closestFrom, closestOf, balanced, moves}
 use Rattle.grouping.specs.Groups.{balanceIf, waits, pushed, after, more, front, back, groupFrom, addRows, dividedBy, meanOf}
 use Rattle.grouping.specs.Call as call
 

@@ -15,7 +15,7 @@ use Rattle.sums.specs.Refusals.{refused}
 use Rattle.labels.specs.Label.{nearests}
 use Rattle.kmeans.specs.KMeans.{Fit, update, iterate}
 use Rattle.kmeans.proofs.Iterations.{fixed}
-use Rattle.grouping.specs.Balance.{share}
+use Rattle.parts.specs.Balance.{share}
 use Rattle.grouping.specs.Groups.{Rule, balanceIf, partsOf, madeBy, splitFrom}
 use Rattle.worked.specs.Table.{half, three, ten, eleven}
 use Rattle.worked.proofs.Opened.{opened}

@@ -16,7 +16,7 @@ use Rattle.sums.specs.Refusals.{Answer, accepted, refused}
 use Rattle.labels.specs.Label.{nearestFrom, nothingYet, nearest}
 use Rattle.labels.specs.Pool.{farther, pool}
 use Rattle.kmeans.specs.KMeans.{Result, timesInverse, iterate, kmeans}
-use Rattle.grouping.specs.Balance.{share, allowed, closestOf, moved, giver, taker, balance}
+use Rattle.parts.specs.Balance.{share, allowed, closestOf, moved, giver, taker, balance}
 use Rattle.grouping.specs.Groups.{Groups, partsOf, madeBy, waits, after, more, front, back, splitFrom, grouping, addRows, meanOf}
 use Rattle.worked.specs.Table.{half, grouped}
 use Rattle.worked.proofs.Opened.{opened}

@@ -14,8 +14,8 @@ use Rattle.labels.specs.Call.{labelCall}
 use Rattle.kmeans.specs.KMeans.{usual}
 use Rattle.kmeans.specs.Call.{lentOf, kmeansCall}
 use Rattle.closure.specs.Call.{closureCall}
-use Rattle.grouping.specs.Parts.{sizesOf}
-use Rattle.grouping.specs.Balance.{share, allowed, balance, moves, toward}
+use Rattle.parts.specs.Parts.{sizesOf}
+use Rattle.parts.specs.Balance.{share, allowed, balance, moves, toward}
 use Rattle.grouping.specs.Groups.{Groups}
 use Rattle.grouping.specs.Call.{lengthsOf, groupingCall}
 

@@ -9,8 +9,8 @@ use Rattle.sums.specs.Rows.{Row, rowsFrom, rowsAt}
 use Rattle.sums.proofs.Fronts.{Front, front}
 use Rattle.kmeans.specs.Inside.{Ran}
 use Rattle.kmeans.specs.KMeans.{forGrouping}
-use Rattle.grouping.specs.Parts.{gathered, sizesOf, flat}
-use Rattle.grouping.proofs.Layouts.{sizes-total}
+use Rattle.parts.specs.Parts.{gathered, sizesOf, flat}
+use Rattle.parts.proofs.Layouts.{sizes-total}
 use Rattle.grouping.proofs.Splits.{Labelled, labelled, split-space, split-done}
 use native.Mathlib.Omega.{arith}
 use borrow.Author.Needs.{needs}

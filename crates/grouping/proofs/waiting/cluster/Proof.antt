@@ -1,5 +1,6 @@
 use Rattle.grouping.proofs.States.{Kept, Fronts, fits, lent, Clustering, clustering-none, clustering-start, clustering-list, clustering-six, clustering-seven, clustering-split, clustering-end, end-room, split-room, one-more, not-spent, falls}
-use Rattle.grouping.specs.Inside.{ruleOf, total, pushes, Split}
+use Rattle.parts.specs.Inside.{total}
+use Rattle.grouping.specs.Inside.{ruleOf, pushes, Split}
 use Rattle.sums.proofs.Belows.{below-take, below-drop}
 use Rattle.sums.specs.Rows.{rowsFrom}
 use borrow.Rule.Slice.PartMut.{midOf, mid-len, same-len-mid}

@@ -1,0 +1,188 @@
+// Balancing of parts (the source's balance_clusters). Parts stand one after the other, the last first.
+ghost use mathlib.Core.Path.{_≡_};
+ghost use mathlib.Core.Bool.{true};
+ghost use mathlib.Core.List.{List};
+ghost use Prim.Native.Nat.{ℕ, _+_, _-_, _*_, _<_, _≤_};
+ghost use lib.ListN.{length, getD, drop, set};
+ghost use lib.Ieee.{lt};
+ghost use Rattle.sums.specs.Rows.{rowsFrom};
+ghost use Rattle.sums.specs.Sums.{zero32};
+ghost use Rattle.sums.specs.Cells.{Below};
+ghost use Rattle.parts.specs.Parts.{sizesOf, flat};
+ghost use Rattle.parts.specs.Balance.{closestOf, moved};
+ghost use Rattle.parts.specs.Inside.{total, rotl, rotr, carried, Given, Balanced};
+use sums::cells;
+use sums::math;
+
+// The first row goes behind the last.
+fn rotate_left(s: &mut [u16])
+    requires { ⌜ 0 < length (now s) ⌝ }
+    ensures { λ _. ⌜ now (s .exit) ≡ rotl (now (s .entry)) ⌝ }
+{
+    let x = s[0];
+    let mut n = 0usize;
+    while n + 1 < s.len() {
+        s[n] = s[n + 1];
+        n += 1;
+    }
+    s[n] = x;
+}
+
+// The last row goes before the first.
+fn rotate_right(s: &mut [u16])
+    requires { ⌜ 0 < length (now s) ⌝ }
+    ensures { λ _. ⌜ now (s .exit) ≡ rotr (now (s .entry)) ⌝ }
+{
+    let mut n = s.len() - 1;
+    let x = s[n];
+    while 0 < n {
+        s[n] = s[n - 1];
+        n -= 1;
+    }
+    s[0] = x;
+}
+
+// How many rows lie before those of cluster `c`: those of the clusters above.
+fn start_of(sizes: &[u16], c: usize) -> usize
+    requires { ⌜ (c < length (now sizes)) × (total (now sizes) < 65536) ⌝ }
+    ensures { λ r. ⌜ r ≡ total (drop (c + 1) (now (sizes .entry))) ⌝ }
+{
+    let mut sum = 0usize;
+    let mut i = c + 1;
+    while i < sizes.len() {
+        sum += cells::wide(sizes[i]);
+        i += 1;
+    }
+    sum
+}
+
+// The row at `from` leaves its place, and goes before what stood at `end`: one stretch is turned by one.
+fn carry(part: &mut [u16], from: usize, end: usize)
+    requires { ⌜ (from < length (now part)) × (end ≤ length (now part)) ⌝ }
+    ensures { λ _. ⌜ now (part .exit) ≡ carried from end (now (part .entry)) ⌝ }
+{
+    if from < end {
+        rotate_left(&mut part[from..end]);
+    } else {
+        let past = from + 1;
+        rotate_right(&mut part[end..past]);
+    }
+}
+
+// Row j of cluster `g` leaves its place, later ones move up, and it goes to the end of cluster `r`.
+fn move_row(part: &mut [u16], sizes: &mut [u16], g: usize, r: usize, j: usize)
+    requires { ⌜ (g < length (now sizes)) × (r < length (now sizes)) × (r ≡ g → ⊥) × (j < getD (now sizes) g 0) × (total (now sizes) ≡ length (now part)) × (length (now part) < 65536) ⌝ }
+    ensures sized { λ _. ⌜ now (sizes .exit) ≡ set (set (now (sizes .entry)) g (getD (now (sizes .entry)) g 0 - 1)) r (getD (now (sizes .entry)) r 0 + 1) ⌝ }
+    ensures rows { λ _. ⌜ ((ps : List (List ℕ)) → now (part .entry) ≡ flat ps → now (sizes .entry) ≡ sizesOf ps → now (part .exit) ≡ flat (moved g r j ps)) ⌝ }
+{
+    let from = start_of(sizes, g) + j;
+    let end = start_of(sizes, r) + cells::wide(sizes[r]);
+    carry(part, from, end);
+    sizes[g] -= 1;
+    sizes[r] += 1;
+}
+
+// The place of the row closest to the centroid: the first row, until one is strictly closer.
+fn find_closest_vector_to_centroid(
+    values: &[f32],
+    dim: usize,
+    rows: usize,
+    part: &[u16],
+    centroid: &[f32],
+) -> usize
+    requires { ⌜ (length (now values) ≡ rows * dim) × ((length (now centroid) ≡ dim) × ((0 < length (now part)) × Below rows (now part))) ⌝ }
+    ensures { λ r. ⌜ (r ≡ closestOf (rowsFrom dim rows (now (values .entry))) (now (centroid .entry)) (now (part .entry))) × (r < length (now (part .entry))) ⌝ }
+{
+    let first = cells::wide(part[0]) * dim;
+    let first_end = first + dim;
+    let mut best = math::l2_distance_sqr(&values[first..first_end], centroid);
+    let mut place = 0usize;
+    let mut i = 1usize;
+    while i < part.len() {
+        let at = cells::wide(part[i]) * dim;
+        let end = at + dim;
+        let apart = math::l2_distance_sqr(&values[at..end], centroid);
+        if apart < best {
+            best = apart;
+            place = i;
+        }
+        i += 1;
+    }
+    place
+}
+
+// The row of cluster `g` that is closest to cluster `r`'s k-means centroid goes over.
+fn give_row(
+    values: &[f32],
+    dim: usize,
+    rows: usize,
+    centroids: &[f32],
+    part: &mut [u16],
+    sizes: &mut [u16],
+    g: usize,
+    r: usize,
+)
+    requires { ⌜ (length (now values) ≡ rows * dim) × (length (now centroids) ≡ length (now sizes) * dim) × Below rows (now part) ⌝ }
+    requires { ⌜ (g < length (now sizes)) × (r < length (now sizes)) × (r ≡ g → ⊥) × (0 < getD (now sizes) g 0) × (total (now sizes) ≡ length (now part)) × (length (now part) < 65536) ⌝ }
+    ensures given { λ _. ⌜ ((ps : List (List ℕ)) → now (part .entry) ≡ flat ps → now (sizes .entry) ≡ sizesOf ps → Given (rowsFrom dim rows (now (values .entry))) (rowsFrom dim (length (now (sizes .entry))) (now (centroids .entry))) g r ps (now (part .exit)) (now (sizes .exit))) ⌝ }
+    ensures sized { λ _. ⌜ now (sizes .exit) ≡ set (set (now (sizes .entry)) g (getD (now (sizes .entry)) g 0 - 1)) r (getD (now (sizes .entry)) r 0 + 1) ⌝ }
+    ensures rows { λ _. ⌜ Below rows (now (part .exit)) ⌝ }
+{
+    let from = start_of(sizes, g);
+    let end = from + cells::wide(sizes[g]);
+    let to = r * dim;
+    let to_end = to + dim;
+    let j = find_closest_vector_to_centroid(
+        values,
+        dim,
+        rows,
+        &part[from..end],
+        &centroids[to..to_end],
+    );
+    move_row(part, sizes, g, r, j);
+}
+
+// At most ten rounds: the first cluster above the allowance gives a row to the first below the share. How many rows moved.
+pub fn balance_clusters(
+    values: &[f32],
+    dim: usize,
+    rows: usize,
+    centroids: &[f32],
+    weight: f32,
+    part: &mut [u16],
+    sizes: &mut [u16],
+) -> u16
+    requires { ⌜ (length (now values) ≡ rows * dim) × (length (now centroids) ≡ length (now sizes) * dim) × Below rows (now part) ⌝ }
+    requires { ⌜ (0 < length (now sizes)) × (length (now sizes) ≤ length (now part)) × (total (now sizes) ≡ length (now part)) × (length (now part) ≤ 4096) ⌝ }
+    requires { ⌜ lt zero32 weight ≡ true ⌝ }
+    ensures { λ n. ⌜ ((ps : List (List ℕ)) → now (part .entry) ≡ flat ps → now (sizes .entry) ≡ sizesOf ps → Balanced (rowsFrom dim rows (now (values .entry))) (rowsFrom dim (length (now (sizes .entry))) (now (centroids .entry))) weight ps (now (part .exit)) (now (sizes .exit)) n) ⌝ }
+{
+    let share = part.len() / sizes.len();
+    let allowance = (share as f32) * (1.0f32 + weight);
+    let mut n = 0u16;
+    'rounds: while n < 10 {
+        let mut i = 0usize;
+        let giver = loop {
+            if i == sizes.len() {
+                break 'rounds;
+            }
+            if allowance < sizes[i] as f32 {
+                break i;
+            }
+            i += 1;
+        };
+        let mut j = 0usize;
+        let receiver = loop {
+            if j == sizes.len() {
+                break 'rounds;
+            }
+            if cells::wide(sizes[j]) < share {
+                break j;
+            }
+            j += 1;
+        };
+        give_row(values, dim, rows, centroids, part, sizes, giver, receiver);
+        n += 1;
+    }
+    n
+}
