@@ -9,7 +9,7 @@ use lib.ListN.{length, getD, take, drop, replicate, length-append, drop-of-lengt
 use lib.Seq.{take-suc, take-all, take-at, length-take-le}
 use lib.Ieee.{Float}
 use Rattle.sums.specs.Rows.{Row, rowsFrom}
-use Rattle.sums.specs.Refusals.{Answer, accepted, refused, lowestIf, lowestFrom, unless, onAccepted, padded, cellsOf}
+use Rattle.sums.specs.Refusals.{Answer, accepted, refused, lowestFrom, unless, onAccepted, padded, cellsOf}
 use Rattle.sums.proofs.Tables.{length-tab}
 use Rattle.words.specs.Bytes.{floatsFrom, bytes16}
 use Rattle.words.proofs.ByteLaws.{floats-tab}
@@ -21,11 +21,11 @@ use Rattle.closure.specs.Call.{closureCall, Gives}
 use Rattle.closure.specs.declared.ClosureAnswer.{ClosureAnswer}
 use Rattle.closure.specs.declared.ClosureAnswer.the-variants.{Listed, Refused}
 use Rattle.kmeans.specs.KMeans.{Result}
-use Rattle.kmeans.specs.Call.{Figures, figures, Gives as KMeansGives}
+use Rattle.kmeans.specs.Call.{Gives as KMeansGives}
 use Rattle.kmeans.specs.declared.call.KMeansAnswer.{KMeansAnswer}
 use Rattle.kmeans.specs.declared.call.KMeansAnswer.the-variants.{Accepted, Refused as KMeansAnswer·Refused}
 use Rattle.grouping.specs.Groups.{Groups}
-use Rattle.grouping.specs.Call.{Figures as Group·Figures, figures as Group·figures, Gives as GroupGives}
+use Rattle.grouping.specs.Call.{figures, Gives as GroupGives}
 use Rattle.grouping.specs.declared.call.GroupingAnswer.{GroupingAnswer}
 use Rattle.grouping.specs.declared.call.GroupingAnswer.the-variants.{Accepted as GroupingAnswer·Accepted, Refused as GroupingAnswer·Refused}
 use Rattle.sums.specs.Sums.{zero32}
@@ -168,7 +168,7 @@ module _ (dim k : ℕ) (row centroids : List ℕ) (result : ℕ) where
 one-row : (dim k : ℕ) (row centroids : List Float) (r : LabelAnswer) (cells : List ℕ) → 0 < dim → dim ≤ 64 → 0 < k → k ≤ 64
     → length row ≡ dim → length centroids ≡ k * dim → Labels (rowsCall 1 dim k row centroids 1) 1 r cells
     → getD cells 0 0 ≡ nearest (rowsFrom dim k centroids) row .label
-unfolding rowsRefusal rowsCall lowestIf lowestFrom unless cellsOf padded nearests rowsFrom
+unfolding rowsRefusal rowsCall lowestFrom unless cellsOf padded nearests rowsFrom
 one-row dim k row centroids r cells some small one few a b g =
     let wide : length row ≡ 1 * dim = omega arith in
     let on : rowsRefusal 1 dim k (length row) (length centroids) 1 ≡ 0
@@ -191,17 +191,17 @@ module _ (labelCells centroidCells : ℕ) (r : KMeansAnswer) (labels : List ℕ)
       → KMeansGave answer labelCells centroidCells 0 labels centroids o n
   unfolding codeOf figureOf onAccepted
   kmeans-accepted (accepted a) o n g e =
-      let is : accepted (record { objective = o; restart = n }) ≡ accepted (figures a) = rw e at (g .result) in
-      let same : _≡_ {A = Figures} (record { objective = o; restart = n }) (figures a) = cc in
+      let is : _≡_ {A = Answer (Float × ℕ)} (accepted (o, n)) (accepted (a .objective, a .restart)) = rw e at (g .result) in
+      let same : _≡_ {A = Float × ℕ} (o, n) (a .objective, a .restart) = cc in
       record {
         code = refl;
         labelled = g .labelled;
         centred = g .centred;
-        objective-is = ap (λ (f : Figures). f .objective) same;
-        restart-is = ap (λ (f : Figures). f .restart) same;
+        objective-is = ap (λ (f : Float × ℕ). f .0) same;
+        restart-is = ap (λ (f : Float × ℕ). f .1) same;
       }
   kmeans-accepted (refused number) o n g e =
-      let is : _≡_ {A = Answer Figures} (accepted (record { objective = o; restart = n })) (refused number) = rw e at (g .result) in
+      let is : _≡_ {A = Answer (Float × ℕ)} (accepted (o, n)) (refused number) = rw e at (g .result) in
       let z : _≡_ {A = ℕ} 0 1 = cc in
       absurd (omega arith)
 
@@ -209,11 +209,11 @@ module _ (labelCells centroidCells : ℕ) (r : KMeansAnswer) (labels : List ℕ)
       → KMeansGave answer labelCells centroidCells n labels centroids zero32 0
   unfolding codeOf figureOf onAccepted
   kmeans-refused (accepted a) n g e =
-      let is : _≡_ {A = Answer Figures} (refused n) (accepted (figures a)) = rw e at (g .result) in
+      let is : _≡_ {A = Answer (Float × ℕ)} (refused n) (accepted (a .objective, a .restart)) = rw e at (g .result) in
       let z : _≡_ {A = ℕ} 0 1 = cc in
       absurd (omega arith)
   kmeans-refused (refused number) n g e =
-      let is : _≡_ {A = Answer Figures} (refused n) (refused number) = rw e at (g .result) in
+      let is : _≡_ {A = Answer (Float × ℕ)} (refused n) (refused number) = rw e at (g .result) in
       let same : n ≡ number = cc in
       record { code = same; labelled = g .labelled; centred = g .centred; objective-is = refl; restart-is = refl }
 
@@ -223,18 +223,18 @@ module _ (dim : ℕ) (rows : List Row) (orderCells endCells meanCells : ℕ) (r 
       → GroupGave answer dim rows orderCells endCells meanCells 0 order ends means n m
   unfolding codeOf figureOf onAccepted
   group-accepted (accepted a) n m g e =
-      let is : accepted (record { groups = n; splits = m }) ≡ accepted (Group·figures a) = rw e at (g .result) in
-      let same : _≡_ {A = Group·Figures} (record { groups = n; splits = m }) (Group·figures a) = cc in
+      let is : _≡_ {A = Answer (ℕ × ℕ)} (accepted (n, m)) (accepted (figures a)) = rw e at (g .result) in
+      let same : _≡_ {A = ℕ × ℕ} (n, m) (figures a) = cc in
       record {
         code = refl;
         ordered = g .ordered;
         ended = g .ended;
         meant = g .meant;
-        groups-are = ap (λ (f : Group·Figures). f .groups) same;
-        splits-are = ap (λ (f : Group·Figures). f .splits) same;
+        groups-are = ap (λ (f : ℕ × ℕ). f .0) same;
+        splits-are = ap (λ (f : ℕ × ℕ). f .1) same;
       }
   group-accepted (refused number) n m g e =
-      let is : _≡_ {A = Answer Group·Figures} (accepted (record { groups = n; splits = m })) (refused number) = rw e at (g .result) in
+      let is : _≡_ {A = Answer (ℕ × ℕ)} (accepted (n, m)) (refused number) = rw e at (g .result) in
       let z : _≡_ {A = ℕ} 0 1 = cc in
       absurd (omega arith)
 
@@ -242,10 +242,10 @@ module _ (dim : ℕ) (rows : List Row) (orderCells endCells meanCells : ℕ) (r 
       → GroupGave answer dim rows orderCells endCells meanCells n order ends means 0 0
   unfolding codeOf figureOf onAccepted
   group-refused (accepted a) n g e =
-      let is : _≡_ {A = Answer Group·Figures} (refused n) (accepted (Group·figures a)) = rw e at (g .result) in
+      let is : _≡_ {A = Answer (ℕ × ℕ)} (refused n) (accepted (figures a)) = rw e at (g .result) in
       let z : _≡_ {A = ℕ} 0 1 = cc in
       absurd (omega arith)
   group-refused (refused number) n g e =
-      let is : _≡_ {A = Answer Group·Figures} (refused n) (refused number) = rw e at (g .result) in
+      let is : _≡_ {A = Answer (ℕ × ℕ)} (refused n) (refused number) = rw e at (g .result) in
       let same : n ≡ number = cc in
       record { code = same; ordered = g .ordered; ended = g .ended; meant = g .meant; groups-are = refl; splits-are = refl }

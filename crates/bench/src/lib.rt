@@ -4,13 +4,14 @@ ghost use mathlib.Core.Path.{_≡_};
 ghost use mathlib.Core.List.{List, [], _∷_, _++_, flatMap};
 ghost use Prim.Native.Nat.{ℕ, _+_, _*_, _≤_, _<_};
 ghost use lib.ListN.{length, replicate};
-ghost use Rattle.sums.specs.Refusals.{cellsOf, blankCell};
+ghost use Rattle.sums.specs.Refusals.{cellsOf, blankCell, Cleared};
 ghost use Rattle.words.specs.Bytes.{floatsFrom, bytes16};
 ghost use Rattle.labels.specs.Call.{labelCall as Call·labelCall};
 ghost use Rattle.closure.specs.Call.{closureCall};
-ghost use Rattle.kmeans.specs.Call.{kmeansCall, lentOf, Cleared};
+ghost use Rattle.kmeans.specs.Call.{kmeansCall};
+ghost use Rattle.batch.specs.Batch.{listingOf, putFront};
 ghost use Rattle.bench.specs.Exports.{codeOf, Gave, labelRefusal, labelCall, labelOf, closureRefusal, closureBytesCall, closureWritten, configOf, KMeansGave, GroupGave};
-ghost use Rattle.grouping.specs.Call.{groupingCall, Cleared as Grouping·Cleared};
+ghost use Rattle.grouping.specs.Call.{groupingCall};
 ghost use Rattle.grouping.specs.Inside.{ruleOf};
 ghost use Rattle.sums.specs.Rows.{rowsFrom};
 ghost use Rattle.sums.specs.Sums.{zero32};
@@ -262,8 +263,9 @@ pub extern "C" fn families_kmeans(
     trial_labels: &mut [u16],
     places: &mut [u16],
 ) -> u32
-    ensures { λ r. ⌜ KMeansGave (kmeansCall rows dim k (configOf iterations restarts points block) (now (draws .entry)) (now (values .entry)) (lentOf (length (now (labels .entry))) (length (now (centroids .entry))) (length (now (training .entry))) (length (now (own .entry))) (length (now («training_own» .entry))) (length (now (distances .entry))) (length (now («trial_labels» .entry))) (length (now (places .entry))))) (length (now (labels .entry))) (length (now (centroids .entry))) r (now (labels .exit)) (now (centroids .exit)) (now (objective .exit)) (now (restart .exit)) ⌝ }
-    ensures { λ r. ⌜ Cleared (lentOf (length (now (labels .entry))) (length (now (centroids .entry))) (length (now (training .entry))) (length (now (own .entry))) (length (now («training_own» .entry))) (length (now (distances .entry))) (length (now («trial_labels» .entry))) (length (now (places .entry)))) (now (training .exit)) (now (own .exit)) (now («training_own» .exit)) (now (distances .exit)) (now («trial_labels» .exit)) (now (places .exit)) ⌝ }
+    ensures { λ r. ⌜ KMeansGave (kmeansCall rows dim k (configOf iterations restarts points block) (now (draws .entry)) (now (values .entry)) (length (now (labels .entry)) ∷ length (now (centroids .entry)) ∷ length (now (training .entry)) ∷ length (now (own .entry)) ∷ length (now («training_own» .entry)) ∷ length (now (distances .entry)) ∷ length (now («trial_labels» .entry)) ∷ length (now (places .entry)) ∷ [])) (length (now (labels .entry))) (length (now (centroids .entry))) r (now (labels .exit)) (now (centroids .exit)) (now (objective .exit)) (now (restart .exit)) ⌝ }
+    ensures { λ _. ⌜ Cleared zero32 (now (training .exit)) × (Cleared zero32 (now (own .exit)) × (Cleared zero32 (now («training_own» .exit)) × Cleared zero32 (now (distances .exit)))) ⌝ }
+    ensures { λ _. ⌜ Cleared 0 (now («trial_labels» .exit)) × Cleared 0 (now (places .exit)) ⌝ }
 {
     let config = KMeansConfig {
         niter: iterations,
@@ -332,10 +334,10 @@ pub extern "C" fn families_group(
     places: &mut [u16],
 ) -> u32
     ensures { λ r. ⌜ GroupGave (groupingCall (ruleOf (now (draws .entry)) dim (rowsFrom dim rows (now (values .entry))) branching weight) rows limit budget (length (now (values .entry))) (length (now (order .entry)) ∷ length (now (ends .entry)) ∷ length (now (means .entry)) ∷ length (now (waiting .entry)) ∷ length (now (copied .entry)) ∷ length (now (labels .entry)) ∷ length (now (gathered .entry)) ∷ length (now (training .entry)) ∷ length (now (own .entry)) ∷ length (now («training_own» .entry)) ∷ length (now (distances .entry)) ∷ length (now («trial_labels» .entry)) ∷ length (now (places .entry)) ∷ [])) dim (rowsFrom dim rows (now (values .entry))) (length (now (order .entry))) (length (now (ends .entry))) (length (now (means .entry))) r (now (order .exit)) (now (ends .exit)) (now (means .exit)) (now (groups .exit)) (now (splits .exit)) ⌝ }
-    ensures { λ _. ⌜ Grouping·Cleared 0 (now (waiting .exit)) × (Grouping·Cleared 0 (now (copied .exit)) × Grouping·Cleared 0 (now (labels .exit))) ⌝ }
-    ensures { λ _. ⌜ Grouping·Cleared zero32 (now (gathered .exit)) × Grouping·Cleared zero32 (now (training .exit)) ⌝ }
-    ensures { λ _. ⌜ Grouping·Cleared zero32 (now (own .exit)) × (Grouping·Cleared zero32 (now («training_own» .exit)) × Grouping·Cleared zero32 (now (distances .exit))) ⌝ }
-    ensures { λ _. ⌜ Grouping·Cleared 0 (now («trial_labels» .exit)) × Grouping·Cleared 0 (now (places .exit)) ⌝ }
+    ensures { λ _. ⌜ Cleared 0 (now (waiting .exit)) × (Cleared 0 (now (copied .exit)) × Cleared 0 (now (labels .exit))) ⌝ }
+    ensures { λ _. ⌜ Cleared zero32 (now (gathered .exit)) × Cleared zero32 (now (training .exit)) ⌝ }
+    ensures { λ _. ⌜ Cleared zero32 (now (own .exit)) × (Cleared zero32 (now («training_own» .exit)) × Cleared zero32 (now (distances .exit))) ⌝ }
+    ensures { λ _. ⌜ Cleared 0 (now («trial_labels» .exit)) × Cleared 0 (now (places .exit)) ⌝ }
 {
     let answer = grouping::call::hierarchical_clustering(
         rows,
@@ -375,4 +377,13 @@ pub extern "C" fn families_group(
             number
         }
     }
+}
+
+// A batch file in, its listing out: how many bytes the listing has. A buffer that is too short gets what fits.
+#[no_mangle]
+pub extern "C" fn families_list(file: &[u8], text: &mut [u8]) -> u32
+    ensures { λ r. ⌜ r ≡ length (listingOf (now (file .entry))) ⌝ }
+    ensures { λ _. ⌜ now (text .exit) ≡ putFront (listingOf (now (file .entry))) (now (text .entry)) ⌝ }
+{
+    batch::list_batch(file, text) as u32
 }

@@ -2,28 +2,29 @@
 use Prim.Native.Nat.{ℕ, zero, suc, _+_, _-_, _*_, _≤_, _<_}
 use mathlib.Core.Path.{_≡_, refl, sym, ap, _∙_}
 use mathlib.Core.Bool.{true, false, not, _&&_}
-use mathlib.Core.List.{List, [], _∷_, _++_, map, map-append, append-nil}
+use mathlib.Core.List.{List, [], _∷_, _++_, append-nil}
 use native.Mathlib.Nat.{not-suc-le-zero}
 use native.Mathlib.Numerals.{add-one}
 use native.Mathlib.Omega.{arith}
-use borrow.Author.Tests.{eq-eqb, eqb-true, leb-true}
-use lib.Dec.{eqb, leb}
+use borrow.Author.Tests.{eq-eqb, eqb-true}
+use lib.Dec.{eqb}
 use lib.ListN.{length, getD, take, drop, set, replicate, length-append, length-map, drop-of-length-le}
 use lib.Seq.{drop-cons, take-suc}
 use lib.Ieee.{Float, nan, inf, fin, up, down, eq, ne, isNan}
 use Rattle.sums.specs.Rows.{Row, rowsFrom, rowAt}
 use Rattle.sums.specs.Sums.{apartOf}
-use Rattle.sums.specs.Ordering.{Candidate, candidate, numbered, order, orderFrom, keep}
-use Rattle.sums.specs.Refusals.{padded, accepted, refused, onAccepted, cellsOf, within, lowestFrom, unless, blankCell}
-use Rattle.sums.specs.Tables.{tabulate}
+use Rattle.sums.specs.Ordering.{placeOf, order, orderFrom, keep}
+use Rattle.sums.specs.Cells.{inserted}
+use Rattle.sums.specs.Refusals.{padded, accepted, refused, onAccepted, cellsOf, within, unless, blankCell}
+use Rattle.sums.specs.Tables.{tabulate, upTo}
 use Rattle.sums.proofs.Rows.{map-rows, rows-length}
 use Rattle.closure.specs.declared.Reach.{Reach}
 use Rattle.closure.specs.declared.ClosureAnswer.the-variants.{Listed, Refused}
 use Rattle.closure.specs.Closure.{nearer, inReach, anyNan, distances, closure, listed, unordered, reachOf}
-use Rattle.closure.specs.Call.{answered, refuseNan, closureRefusal, closureCall, Gives}
-use Rattle.closure.specs.Inside.{chosen}
-use Rattle.sums.proofs.Fronts.{take-map, take-least}
-use Rattle.sums.proofs.Orders.{keep-append, keep-le}
+use Rattle.closure.specs.Call.{answered, closureRefusal, closureCall, Gives}
+use Rattle.sums.proofs.Fronts.{take-least}
+use Rattle.sums.proofs.Inserts.{inserted-among, place-within}
+use Rattle.sums.proofs.Orders.{place-split, order-snoc, keep-append}
 use Rattle.sums.proofs.Refusing.{padded-none, padded-more, both, within-is, passed}
 
 -- ---- a NaN is what differs from itself
@@ -58,66 +59,71 @@ distances-tab row n centroids = map-rows (apartOf row) (length row) n centroids
 pub distances-length : (row : Row) (dim n : ℕ) (values : List Float) → length (distances row (rowsFrom dim n values)) ≡ n
 distances-length row dim n values = length-map (rowsFrom dim n values) (apartOf row) ∙ rows-length dim n values
 
--- ---- the choice
-pub chosen-more : (reach : Reach) (ds : List Float) (at : List ℕ) (j : ℕ) → j < length at
-    → chosen reach ds (take (j + 1) at) ≡ chosen reach ds (take j at) ++ map (λ c. c .position) (keep (inReach reach) (candidate ds (getD at j 0) ∷ []))
-unfolding chosen
-chosen-more reach ds at j h =
-    rw (add-one j, take-suc at j 0 h, map-append (candidate ds) (take j at) (getD at j 0 ∷ []), keep-append (inReach reach) (map (candidate ds) (take j at)) (candidate ds (getD at j 0) ∷ []))
-    (map-append (λ (c : Candidate). c .position) (keep (inReach reach) (map (candidate ds) (take j at))) (keep (inReach reach) (candidate ds (getD at j 0) ∷ [])))
+-- ---- the positions put in order: i goes to its place among the first i
+pub place-few : (ds : List Float) (at : List ℕ) (i to : ℕ) → i ≤ length at → to ≡ placeOf (nearer ds) i (take i at) → to ≤ i
+place-few ds at i to h e = omega (arith, e, place-within (nearer ds) at i i i (omega arith) h)
 
-pub chosen-le : (reach : Reach) (ds : List Float) (at : List ℕ) → length (chosen reach ds at) ≤ length at
-unfolding chosen
-chosen-le reach ds at =
-    rw (length-map (keep (inReach reach) (map (candidate ds) at)) (λ (c : Candidate). c .position)) (omega (arith, keep-le (inReach reach) (map (candidate ds) at), length-map at (candidate ds)))
+pub order-more : (ds : List Float) (at : List ℕ) (i to : ℕ) → i < length at → to ≡ placeOf (nearer ds) i (take i at)
+    → take i at ≡ order (nearer ds) (upTo i) → take (i + 1) (inserted at to i i) ≡ order (nearer ds) (upTo (i + 1))
+order-more ds at i to h e o =
+    inserted-among at to i i (place-few ds at i to (omega arith) e) h
+    ∙ rw (e, ← place-split (nearer ds) i (take i at), o, add-one i) (sym (order-snoc (nearer ds) [] (upTo i) i))
+
+-- ---- the choice
+keep-more : (reach : Reach) (ds : List Float) (at : List ℕ) (j : ℕ) → j < length at
+    → keep (inReach reach ds) (take (j + 1) at) ≡ keep (inReach reach ds) (take j at) ++ keep (inReach reach ds) (getD at j 0 ∷ [])
+keep-more reach ds at j h = rw (add-one j, take-suc at j 0 h) (keep-append (inReach reach ds) (take j at) (getD at j 0 ∷ []))
 
 -- with n chosen of the first j
 pub record Turn (reach : Reach) (ds : List Float) (at : List ℕ) (size j n : ℕ) (cells : List ℕ) : Type 0 where
-  pub number : n ≡ length (chosen reach ds (take j at))
-  pub listing : cells ≡ padded blankCell size (chosen reach ds (take j at))
+  pub number : n ≡ length (keep (inReach reach ds) (take j at))
+  pub listing : cells ≡ padded blankCell size (keep (inReach reach ds) (take j at))
 
 module _ (reach : Reach) (ds : List Float) (at : List ℕ) (size j n : ℕ) (cells : List ℕ) (t : Turn reach ds at size j n cells) (h : j < length at) where
-  pub listed-in : n < size → inReach reach (candidate ds (getD at j 0)) ≡ true → Turn reach ds at size (j + 1) (n + 1) (set cells n (getD at j 0))
+  abbrev sofar : List ℕ
+  sofar = keep (inReach reach ds) (take j at)
+
+  pub listed-in : n < size → inReach reach ds (getD at j 0) ≡ true → Turn reach ds at size (j + 1) (n + 1) (set cells n (getD at j 0))
   unfolding keep
   listed-in s e =
-      let more : chosen reach ds (take (j + 1) at) ≡ chosen reach ds (take j at) ++ (getD at j 0 ∷ []) = rw e at (chosen-more reach ds at j h) in
-      let k : length (chosen reach ds (take j at)) < size = omega (arith, t .number) in
+      let more : keep (inReach reach ds) (take (j + 1) at) ≡ sofar ++ (getD at j 0 ∷ []) = rw e at (keep-more reach ds at j h) in
+      let k : length sofar < size = omega (arith, t .number) in
       record {
         number = rw (more, length-append) (omega (arith, t .number));
-        listing = rw (more, t .listing, t .number) (padded-more blankCell size (chosen reach ds (take j at)) (getD at j 0) k);
+        listing = rw (more, t .listing, t .number) (padded-more blankCell size sofar (getD at j 0) k);
       }
 
-  pub passed-by : inReach reach (candidate ds (getD at j 0)) ≡ false → Turn reach ds at size (j + 1) n cells
+  pub passed-by : inReach reach ds (getD at j 0) ≡ false → Turn reach ds at size (j + 1) n cells
   unfolding keep
   passed-by e =
-      let more : chosen reach ds (take (j + 1) at) ≡ chosen reach ds (take j at) = (rw e at (chosen-more reach ds at j h)) ∙ append-nil (chosen reach ds (take j at)) in
+      let more : keep (inReach reach ds) (take (j + 1) at) ≡ sofar = (rw e at (keep-more reach ds at j h)) ∙ append-nil sofar in
       record { number = rw more (t .number); listing = rw more (t .listing) }
 
 -- ---- the whole
-closes : (ds : List Float) (at : List ℕ) (epsilon : Float) (replicas : ℕ) → 0 < length at → map (candidate ds) at ≡ order nearer (numbered ds)
-    → chosen (reachOf epsilon (getD ds (getD at 0 0) nan)) ds (take replicas at) ≡ map (λ c. c .position) (listed epsilon replicas (order nearer (numbered ds)))
-unfolding chosen listed
-closes ds [] epsilon replicas h e = absurd (not-suc-le-zero h)
-closes ds (x ∷ at) epsilon replicas h e = rw (← e, take-map (candidate ds) replicas (x ∷ at))
+closes : (ds : List Float) (at : List ℕ) (epsilon : Float) (replicas : ℕ) → 0 < length at
+    → keep (inReach (reachOf epsilon (getD ds (getD at 0 0) nan)) ds) (take replicas at) ≡ listed epsilon replicas ds at
+unfolding listed
+closes ds [] epsilon replicas h = absurd (not-suc-le-zero h)
+closes ds (x ∷ at) epsilon replicas h = refl
 
 pub is-closure : (row : Row) (centroids : List Row) (epsilon : Float) (replicas : ℕ) (ds : List Float) (at : List ℕ) (reach : Reach) (most x : ℕ)
     → ds ≡ distances row centroids → x ≡ getD at 0 0 → reach ≡ reachOf epsilon (getD ds x nan) → most ≡ replicas - (replicas - length at) → 0 < length at
-    → map (candidate ds) at ≡ order nearer (numbered ds) → chosen reach ds (take most at) ≡ closure epsilon replicas row centroids
+    → at ≡ order (nearer ds) (upTo (length ds)) → keep (inReach reach ds) (take most at) ≡ closure epsilon replicas row centroids
 unfolding closure
-is-closure row centroids epsilon replicas ds at reach most x d w r m s o = rw (← d, r, w, m, take-least replicas at) (closes ds at epsilon replicas s o)
+is-closure row centroids epsilon replicas ds at reach most x d w r m s o = rw (← d, ← o, r, w, m, take-least replicas at) (closes ds at epsilon replicas s)
 
 module _ (epsilon : Float) (replicas : ℕ) (row : Row) (centroids : List Row) where
   pub answered-nan : unordered (distances row centroids) ≡ true → answered epsilon replicas row centroids ≡ refused 5
-  unfolding answered refuseNan
+  unfolding answered
   answered-nan e = rw e
 
   pub answered-list : unordered (distances row centroids) ≡ false → answered epsilon replicas row centroids ≡ accepted (closure epsilon replicas row centroids)
-  unfolding answered refuseNan
+  unfolding answered
   answered-list e = rw e
 
 -- no centroids: no index
 pub answered-none : (epsilon : Float) (replicas dim : ℕ) (row values : List Float) → answered epsilon replicas row (rowsFrom dim 0 values) ≡ accepted []
-unfolding answered refuseNan unordered closure listed orderFrom rowsFrom
+unfolding answered unordered closure listed orderFrom rowsFrom
 answered-none epsilon replicas dim row values = refl
 
 -- ---- what is given back

@@ -1,74 +1,72 @@
 -- What closure promises of the indices that it lists, and of its result. Assumes nothing.
 use mathlib.Core.Path.{_≡_, sym, _∙_}
 use mathlib.Core.Bool.{true, false}
-use mathlib.Core.List.{List, [], _∷_, map}
+use mathlib.Core.List.{List, [], _∷_}
 use Prim.Native.Nat.{ℕ, _≤_, _<_}
 use native.Mathlib.Omega.{arith}
 use lib.ListN.{length, getD, take, length-map}
 use lib.Ieee.{Float, nan, le, isNan}
 use Rattle.sums.specs.Rows.{Row}
 use Rattle.sums.specs.Sums.{zero32, apartOf}
-use Rattle.sums.specs.Ordering.{Candidate, candidate, numbered, order}
+use Rattle.sums.specs.Tables.{upTo}
+use Rattle.sums.specs.Ordering.{order}
 use Rattle.sums.specs.Cells.{Below}
 use Rattle.sums.specs.Refusals.{Answer}
 use Rattle.sums.proofs.Orders.{InOrder}
 use Rattle.closure.specs.declared.ClosureAnswer.{ClosureAnswer}
 use Rattle.closure.specs.declared.ClosureAnswer.the-variants.{Listed, Refused}
-use Rattle.closure.specs.Closure.{nearer, reachOf, listed, distances, closure, unordered}
+use Rattle.closure.specs.Closure.{nearer, reachOf, distances, closure, unordered}
 use Rattle.closure.specs.Call.{told, Gives}
-use Rattle.sums.proofs.Pairs.{Pairs, all-at, all-map, pairs-map, pairs-at, pairs-in-order}
-use Rattle.closure.proofs.Nearer.{Apart, listed-all, listed-pairs, listed-le, order-below, order-apart, order-behind, first-in, is-first}
+use Rattle.sums.proofs.Pairs.{Pairs, all-at, pairs-at, pairs-in-order}
+use Rattle.closure.proofs.Nearer.{ordered, listed-all, listed-pairs, listed-le, order-below, order-apart, order-behind, first-in, is-first}
 
 module _ (epsilon : Float) (replicas : ℕ) (row : Row) (centroids : List Row) where
   abbrev ds : List Float
   ds = distances row centroids
 
-  -- the candidates whose positions `closure` lists
-  abbrev pub offered : List Candidate
-  offered = listed epsilon replicas (order nearer (numbered ds))
-
   -- Each listed index is that of a centroid.
   pub listed-below : Below (length centroids) (closure epsilon replicas row centroids)
   unfolding closure
   listed-below i h =
-      let below = listed-all epsilon replicas (λ c. c .position < length ds) (order nearer (numbered ds)) (order-below ds (length ds)) in
-      omega (arith, length-map centroids (apartOf row), all-at (λ p. p < length ds) (map (λ c. c .position) offered) 0 (all-map (λ c. c .position) (λ p. p < length ds) offered below) i h)
+      let below = listed-all epsilon replicas ds (λ p. p < length ds) (ordered ds) (order-below ds (length ds)) in
+      omega (arith, length-map centroids (apartOf row), all-at (λ p. p < length ds) (closure epsilon replicas row centroids) 0 below i h)
 
   -- No index is listed twice.
   pub listed-distinct : (i j : ℕ) → i < j → j < length (closure epsilon replicas row centroids)
       → getD (closure epsilon replicas row centroids) i 0 ≡ getD (closure epsilon replicas row centroids) j 0 → ⊥
   unfolding closure
-  listed-distinct i j h k =
-      let apart = listed-pairs epsilon replicas Apart (order nearer (numbered ds)) (order-apart ds (length ds)) in
-      pairs-at (λ a b. a ≡ b → ⊥) (map (λ c. c .position) offered) 0 (pairs-map (λ c. c .position) (λ a b. a ≡ b → ⊥) offered apart) i j h k
+  listed-distinct =
+      pairs-at (λ a b. a ≡ b → ⊥) (closure epsilon replicas row centroids) 0
+      (listed-pairs epsilon replicas ds (λ a b. a ≡ b → ⊥) (ordered ds) (order-apart ds (length ds)))
 
   -- There are no more of them than replicas allowed.
   pub listed-few : length (closure epsilon replicas row centroids) ≤ replicas
   unfolding closure
-  listed-few = omega (arith, length-map offered (λ (c : Candidate). c .position), listed-le epsilon replicas (order nearer (numbered ds)))
+  listed-few = listed-le epsilon replicas ds (ordered ds)
 
   -- Where refusal 5 is not given, no later one is nearer than an earlier one.
-  pub listed-behind : unordered ds ≡ false → Pairs (λ a b. nearer b a ≡ false) offered
-  listed-behind e = listed-pairs epsilon replicas (λ a b. nearer b a ≡ false) (order nearer (numbered ds)) (order-behind ds e)
+  pub listed-behind : unordered ds ≡ false → Pairs (λ a b. nearer ds b a ≡ false) (closure epsilon replicas row centroids)
+  unfolding closure
+  listed-behind e = listed-pairs epsilon replicas ds (λ a b. nearer ds b a ≡ false) (ordered ds) (order-behind ds e)
 
   -- So they stand in order of distance, and of index where distances are alike.
-  pub listed-in-order : unordered ds ≡ false → InOrder nearer offered
-  listed-in-order e = pairs-in-order nearer offered (listed-behind e)
+  pub listed-in-order : unordered ds ≡ false → InOrder (nearer ds) (closure epsilon replicas row centroids)
+  listed-in-order e = pairs-in-order (nearer ds) (closure epsilon replicas row centroids) (listed-behind e)
 
   -- Where a replica is allowed, epsilon is at least zero and the threshold no NaN, the first in order is listed, and first.
-  pub first-listed : (closest : Candidate) (others : List Candidate) → order nearer (numbered ds) ≡ closest ∷ others
-      → 0 < replicas → le zero32 epsilon ≡ true → isNan (reachOf epsilon (closest .distance) .threshold) ≡ false
-      → take 1 (closure epsilon replicas row centroids) ≡ closest .position ∷ []
+  pub first-listed : (closest : ℕ) (others : List ℕ) → order (nearer ds) (upTo (length ds)) ≡ closest ∷ others
+      → 0 < replicas → le zero32 epsilon ≡ true → isNan (reachOf epsilon (getD ds closest nan) .threshold) ≡ false
+      → take 1 (closure epsilon replicas row centroids) ≡ closest ∷ []
   first-listed closest others e r h k = first-in epsilon replicas row centroids closest others e r h k
 
   -- So the index than which none is nearer is listed, and first.
-  pub closest-listed : (i : ℕ) → i < length centroids → ((j : ℕ) → j < length centroids → nearer (candidate ds j) (candidate ds i) ≡ false)
+  pub closest-listed : (i : ℕ) → i < length centroids → ((j : ℕ) → j < length centroids → nearer ds j i ≡ false)
       → unordered ds ≡ false → 0 < replicas → le zero32 epsilon ≡ true → isNan (reachOf epsilon (getD ds i nan) .threshold) ≡ false
       → take 1 (closure epsilon replicas row centroids) ≡ i ∷ []
   closest-listed i l n u r h k =
       let size : length ds ≡ length centroids = length-map centroids (apartOf row) in
       let f = is-first ds i (rw size l) u (rw size n) in
-      rw (f .place-is) at (first-listed (f .closest) (f .others) (f .in-order) r h (rw (f .distance-is) k))
+      first-listed i (f .others) (f .in-order) r h k
 
 same-told : (r r′ : ClosureAnswer) → told r ≡ told r′ → r ≡ r′
 same-told (Listed n) (Listed m) e = cc

@@ -1,6 +1,6 @@
 -- Closure on what a caller lends (01, 'Ranges and refusal numbers' and 'Closure'). Lengths stand for the lent slices.
 use mathlib.Core.Path.{_≡_}
-use mathlib.Core.Bool.{Bool, true, false, _&&_}
+use mathlib.Core.Bool.{_&&_, cond}
 use mathlib.Core.List.{List, [], _∷_}
 use Prim.Native.Nat.{ℕ, _*_}
 use lib.Dec.{eqb}
@@ -17,14 +17,10 @@ unfoldable pub closureRefusal : ℕ → ℕ → ℕ → ℕ → ℕ → ℕ
 closureRefusal dim count row centroids cells =
     lowest ((within 1 64 dim && within 0 64 count) ∷ (eqb row dim && eqb centroids (count * dim) && eqb cells count) ∷ [])
 
-unfoldable pub refuseNan : Bool → Answer (List ℕ) → Answer (List ℕ)
-refuseNan true answer = refused 5
-refuseNan false answer = answer
-
 -- the answer where neither 1 nor 2 is given: refusal 5, or the indices
 unfoldable pub answered : Float → ℕ → Row → List Row → Answer (List ℕ)
 answered epsilon replicas row centroids =
-    refuseNan (unordered (distances row centroids)) (accepted (closure epsilon replicas row centroids))
+    cond (unordered (distances row centroids)) (refused 5) (accepted (closure epsilon replicas row centroids))
 
 unfoldable pub closureCall : Float → ℕ → ℕ → ℕ → List Float → List Float → ℕ → Answer (List ℕ)
 closureCall epsilon replicas dim count row centroids cells =

@@ -1,4 +1,3 @@
--- 01, 'Closure', as definitions: which families a row is offered, the call with its refusals, and what the functions inside say of their slices.
+-- 01, 'Closure', as definitions: which families a row is offered, and the call with its refusals.
 pub mod Closure
 pub mod Call
-pub mod Inside

@@ -11,12 +11,13 @@ use Rattle.sums.specs.Rows.{Row, rowsFrom}
 use Rattle.sums.specs.Cells.{Below}
 use Rattle.sums.specs.Sums.{zero32}
 use Rattle.sums.specs.Refusals.{Answer, accepted, refused, unless, onAccepted, padded, cellsOf, blankCell}
-use Rattle.sums.proofs.Refusing.{both, within-is, same-cons, passed, padded-all, padded-none}
+use Rattle.sums.proofs.Refusing.{both, within-is, same-is, passed, padded-all, padded-none}
+use Rattle.kmeans.specs.Inside.{Limits}
 use Rattle.grouping.specs.declared.call.GroupingAnswer.{GroupingAnswer}
 use Rattle.grouping.specs.declared.call.GroupingAnswer.the-variants.{Accepted, Refused}
 use Rattle.grouping.specs.Groups.{Rule, Groups, grouping, endsFrom, meanOf}
-use Rattle.grouping.specs.Inside.{GroupRoom, Listed, Grouped, Cut, ruleOf}
-use Rattle.grouping.specs.Call.{rangesFit, lengthsFit, groupingRefusal, groupingCall, figures, Figures, told, Gives}
+use Rattle.grouping.specs.Inside.{workOf, Listed, Grouped, Cut, ruleOf}
+use Rattle.grouping.specs.Call.{rangesFit, lengthsFit, groupingRefusal, groupingCall, figures, told, Gives}
 use Rattle.grouping.proofs.Stretches.{padded-is, ends-length, start-is, end-is}
 
 -- ---- the numbers of a call that refusal 1 lets through
@@ -50,7 +51,8 @@ pub record Fitting (rows dim branching budget draws values order ends means wait
   pub mean-cells : means ≡ rows * dim
   pub some-draws : 0 < draws
   pub few-splits : budget ≤ 8192
-  pub room : GroupRoom dim rows branching values ends waiting copied labels gathered training own trainingOwn distances trialLabels places
+  pub limits : Limits dim branching rows
+  pub room : (ends ∷ waiting ∷ values ∷ copied ∷ labels ∷ gathered ∷ training ∷ own ∷ trainingOwn ∷ distances ∷ trialLabels ∷ places ∷ []) ≡ (rows ∷ rows ∷ workOf dim rows rows)
 
 pub fitting : (rows dim limit branching budget draws values order ends means waiting copied labels gathered training own trainingOwn distances trialLabels places : ℕ)
     → groupingRefusal rows dim limit branching budget draws values (order ∷ ends ∷ means ∷ waiting ∷ copied ∷ labels ∷ gathered ∷ training ∷ own ∷ trainingOwn ∷ distances ∷ trialLabels ∷ places ∷ []) ≡ 0
@@ -59,56 +61,22 @@ unfolding groupingRefusal lengthsFit
 fitting rows dim limit branching budget draws values order ends means waiting copied labels gathered training own trainingOwn distances trialLabels places e =
     let held = passed 0 _ e in
     let r = ranged rows dim limit branching budget (held .0) in
-    let a = same-cons _ _ _ _ (held .1 .0) in
-    let b = same-cons _ _ _ _ (a .1) in
-    let c = same-cons _ _ _ _ (b .1) in
-    let d = same-cons _ _ _ _ (c .1) in
-    let f = same-cons _ _ _ _ (d .1) in
-    let g = same-cons _ _ _ _ (f .1) in
-    let h = same-cons _ _ _ _ (g .1) in
-    let i = same-cons _ _ _ _ (h .1) in
-    let j = same-cons _ _ _ _ (i .1) in
-    let k = same-cons _ _ _ _ (j .1) in
-    let l = same-cons _ _ _ _ (k .1) in
-    let m = same-cons _ _ _ _ (l .1) in
-    let n = same-cons _ _ _ _ (m .1) in
-    let o = same-cons _ _ _ _ (n .1) in
+    let same = same-is _ _ (held .1 .0) in
     record {
-      order-is = b .0;
-      mean-cells = d .0;
+      order-is = cc;
+      mean-cells = cc;
       some-draws = within-is 1 4096 draws (held .1 .1 .1 .0) .0;
       few-splits = r .few-splits;
-      room = record {
-        some-dim = r .some-dim;
-        small-dim = r .small-dim;
-        some = r .some;
-        few = r .few;
-        few-rows = r .few-rows;
-        value-cells = a .0;
-        end-cells = c .0;
-        waiting-cells = f .0;
-        copied-cells = g .0;
-        label-cells = h .0;
-        gathered-cells = i .0;
-        training-cells = j .0;
-        own-cells = k .0;
-        training-own-cells = l .0;
-        distance-cells = m .0;
-        trial-cells = n .0;
-        place-cells = o .0;
-      };
+      limits = ((r .some-dim, r .small-dim), ((r .some, r .few), r .few-rows));
+      room = cc;
     }
 
 -- the same room, its rows and parts counted otherwise
-pub room-at : {dim rows k values ends waiting copied labels gathered training own trainingOwn distances trialLabels places : ℕ} (n m : ℕ) → n ≡ rows → m ≡ k
-    → GroupRoom dim rows k values ends waiting copied labels gathered training own trainingOwn distances trialLabels places
-    → GroupRoom dim n m values ends waiting copied labels gathered training own trainingOwn distances trialLabels places
-room-at n m e f r = rw (e, f) r
+pub room-at : {dim rows k : ℕ} {lent : List ℕ} (n m : ℕ) → n ≡ rows → m ≡ k → Limits dim k rows → lent ≡ (rows ∷ rows ∷ workOf dim rows rows)
+    → Limits dim m n × (lent ≡ (n ∷ n ∷ workOf dim n n))
+room-at n m e f l r = rw (e, f) (l, r)
 
 -- ---- what each answer gives
-
-abbrev figuresOf : ℕ → ℕ → Figures
-figuresOf groups splits = record { groups = groups; splits = splits }
 
 -- the same, its cells counted otherwise
 pub grouped-at : {answer : Answer Groups} {n : ℕ} {r : GroupingAnswer} {order ends : List ℕ} (m : ℕ) → m ≡ n → Grouped answer n r order ends → Grouped answer m r order ends
@@ -135,8 +103,8 @@ pub taken : (answer : Answer Groups) (n groups splits : ℕ) (order ends : List 
 unfolding onAccepted Listed
 taken (accepted g) n groups splits order ends h =
     let gs = g .groups in
-    let z : figuresOf groups splits ≡ figures g = let r = h .result in cc in
-    let m : groups ≡ length gs = ap (λ (f : Figures). f .groups) z in
+    let z : _≡_ {A = ℕ × ℕ} (groups, splits) (figures g) = let r = h .result in cc in
+    let m : groups ≡ length gs = ap (λ (f : ℕ × ℕ). f .0) z in
     let w : n ≡ length (endsFrom 0 gs) + (n - length gs) = omega (arith, h .listed .1 .1 .1, ends-length 0 gs) in
     record {
       g = g;

@@ -16,7 +16,7 @@ use Rattle.sums.proofs.Refusing.{same-cons, padded-all, padded-none, padded-at,
 use Rattle.grouping.specs.declared.call.GroupingAnswer.{GroupingAnswer}
 use Rattle.grouping.specs.declared.call.GroupingAnswer.the-variants.{Accepted, Refused}
 use Rattle.grouping.specs.Groups.{Rule, Groups, meanOf, endsFrom}
-use Rattle.grouping.specs.Call.{lengthsFit, Figures, figures, told, Gives}
+use Rattle.grouping.specs.Call.{lengthsFit, figures, told, Gives}
 use Rattle.grouping.proofs.Stretches.{flatten-part, flatMap-part, flatMap-length, padded-is, padded-length, ends-length, start-is, end-is}
 use Rattle.grouping.proofs.Averages.{mean-length}
 use Rattle.grouping.proofs.GroupPromises.{Sized, Listing, some-group}
@@ -72,9 +72,6 @@ measured rows dim values o e m work fit =
     let d = same-cons _ _ _ _ (c .1) in
     record { order-cells = b .0; end-cells = c .0; mean-cells = d .0 }
 
-abbrev figuresOf : ℕ → ℕ → Figures
-figuresOf groups splits = record { groups = groups; splits = splits }
-
 -- One call; the rule has its draws, readings, branching and weight, and `work` the lengths of the work slices.
 module _ (rule : Rule) (rows limit budget values orderCells endCells meanCells : ℕ) (work : List ℕ) where
   abbrev pub called : Answer Groups
@@ -118,8 +115,8 @@ module _ (rule : Rule) (rows limit budget values orderCells endCells meanCells :
           → means ≡ cellsOf zero32 meanCells (λ (g : Groups). flatMap (meanOf (rule .dim) (rule .rows)) (g .groups)) a
           → Behind groups splits order ends means
       go (accepted g) e t o n m =
-          let z : figures g ≡ figuresOf groups splits = cc in
-          record { g = g; is = e; counted = ap (λ (f : Figures). f .groups) z; done = ap (λ (f : Figures). f .splits) z; ordered = o; ended = n; meant = m }
+          let z : _≡_ {A = ℕ × ℕ} (figures g) (groups, splits) = cc in
+          record { g = g; is = e; counted = ap (λ (f : ℕ × ℕ). f .0) z; done = ap (λ (f : ℕ × ℕ). f .1) z; ordered = o; ended = n; meant = m }
       go (refused number) e t o n m = let z : _≡_ {A = ℕ} 0 1 = cc in absurd (omega arith)
 
   module _ (rows-told : length (rule .rows) ≡ rows) {groups splits : ℕ} {order ends : List ℕ} {means : List Float} (b : Behind groups splits order ends means) where
@@ -204,8 +201,8 @@ module _ (rule : Rule) (rows limit budget values orderCells endCells meanCells :
 -- ---- the answer and every cell follow from the call alone
 told-once : (r r′ : GroupingAnswer) → told r ≡ told r′ → r ≡ r′
 told-once (Accepted g s) (Accepted g′ s′) e =
-    let z : figuresOf g s ≡ figuresOf g′ s′ = cc in
-    rw (ap (λ (f : Figures). f .groups) z, ap (λ (f : Figures). f .splits) z)
+    let z : _≡_ {A = ℕ × ℕ} (g, s) (g′, s′) = cc in
+    rw (ap (λ (f : ℕ × ℕ). f .0) z, ap (λ (f : ℕ × ℕ). f .1) z)
 told-once (Accepted g s) (Refused number) e = let z : _≡_ {A = ℕ} 0 1 = cc in absurd (omega arith)
 told-once (Refused number) (Accepted g s) e = let z : _≡_ {A = ℕ} 0 1 = cc in absurd (omega arith)
 told-once (Refused number) (Refused number′) e = let z : number ≡ number′ = cc in rw z

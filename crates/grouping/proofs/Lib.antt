@@ -1,4 +1,5 @@
 -- The laws that the functions of this crate lean on, and what splitting and grouping promise.
+pub mod Rooms
 pub mod Stretches
 pub mod Stacks
 pub mod Averages

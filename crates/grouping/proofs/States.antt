@@ -24,7 +24,9 @@ use Rattle.sums.proofs.Pairs.{All, all-append}
 use Rattle.parts.specs.Parts.{flat, sizesOf}
 use Rattle.grouping.specs.Groups.{Rule, Groups, partsOf, madeBy, waits, pushed, after, groupFrom, grouping, endsFrom}
 use Rattle.parts.specs.Inside.{total}
-use Rattle.grouping.specs.Inside.{tops, pushes, ruleOf, SplitRoom, Split, GroupRoom, Listed, Grouped}
+use Rattle.grouping.specs.Inside.{tops, pushes, ruleOf, Listed, Grouped}
+use Rattle.grouping.proofs.Rooms.{SplitRoom, GroupRoom}
+use Rattle.grouping.proofs.Splits.{Split}
 use Rattle.grouping.specs.declared.call.GroupingAnswer.the-variants.{Accepted, Refused}
 use Rattle.grouping.proofs.Stretches.{flatten-snoc, mid-at, put-at, ends-length, ends-snoc}
 use Rattle.grouping.proofs.Steps.{Full, full-pushed, full-count, flatten-pushed, plus, group-end, group-list, group-six, group-seven, group-split, sofar-none, sofar-list, sofar-more, sofar-end}

@@ -3,7 +3,7 @@ use mathlib.Core.Path.{_≡_}
 use mathlib.Core.Bool.{Bool, true, _&&_}
 use mathlib.Core.List.{List, [], _∷_, flatMap, flatten}
 use Prim.Native.Nat.{ℕ, _*_}
-use lib.ListN.{length, replicate}
+use lib.ListN.{length}
 use lib.Ieee.{Float}
 use Rattle.sums.specs.Rows.{Row, rowsFrom}
 use Rattle.sums.specs.Sums.{zero32}
@@ -34,18 +34,13 @@ unfoldable pub groupingCall : Rule → ℕ → ℕ → ℕ → ℕ → List ℕ 
 groupingCall rule rows limit budget values lent =
     unless (groupingRefusal rows (rule .dim) limit (rule .branching) budget (length (rule .draws)) values lent) (grouping rule limit budget)
 
--- what an acceptance carries: the number of groups, and of splits
-pub record Figures : Type 0 where
-  pub groups : ℕ
-  pub splits : ℕ
-
-abbrev pub figures : Groups → Figures
-figures g = record { groups = length (g .groups); splits = g .splits }
-
--- each case of the code's enum in 01's terms
-abbrev pub told : GroupingAnswer → Answer Figures
-told (Accepted groups splits) = accepted (record { groups = groups; splits = splits })
+-- each case of the code's enum in 01's terms: the numbers of groups and of splits, or the refusal's number
+abbrev pub told : GroupingAnswer → Answer (ℕ × ℕ)
+told (Accepted groups splits) = accepted (groups, splits)
 told (Refused number) = refused number
+
+abbrev pub figures : Groups → ℕ × ℕ
+figures g = (length (g .groups), g .splits)
 
 -- a call's whole result: the answer, the row order, the group ends and the means
 pub record Gives (answer : Answer Groups) (dim : ℕ) (rows : List Row) (orderCells endCells meanCells : ℕ) (r : GroupingAnswer) (order ends : List ℕ) (means : List Float) : Type 0 where
@@ -53,7 +48,3 @@ pub record Gives (answer : Answer Groups) (dim : ℕ) (rows : List Row) (orderCe
   pub ordered : order ≡ cellsOf blankCell orderCells (λ (g : Groups). flatten (g .groups)) answer
   pub ended : ends ≡ cellsOf blankCell endCells (λ (g : Groups). endsFrom 0 (g .groups)) answer
   pub meant : means ≡ cellsOf zero32 meanCells (λ (g : Groups). flatMap (meanOf dim rows) (g .groups)) answer
-
--- a work slice after every call
-abbrev pub Cleared : {A : Type 0} → A → List A → Type 0
-Cleared zero cells = cells ≡ replicate (length cells) zero

@@ -2,12 +2,18 @@
 ghost use mathlib.Core.Path.{_≡_};
 ghost use Prim.Native.Nat.{ℕ, _*_, _≤_, _<_};
 ghost use lib.ListN.{length};
+ghost use lib.Ieee.{lt};
 ghost use Rattle.sums.specs.Rows.{rowsFrom};
+ghost use Rattle.sums.specs.Sums.{zero32};
 ghost use Rattle.sums.specs.Cells.{Below};
-ghost use mathlib.Core.List.{List};
+ghost use Rattle.sums.specs.Draws.{Drawn};
+ghost use mathlib.Core.List.{List, [], _∷_};
 ghost use Rattle.parts.specs.Parts.{sizesOf, flat};
+ghost use Rattle.parts.specs.Balance.{share};
 ghost use Rattle.parts.specs.Inside.{total};
-ghost use Rattle.grouping.specs.Inside.{ruleOf, SplitRoom, Split, BalancedIf};
+ghost use Rattle.kmeans.specs.Inside.{Limits};
+ghost use Rattle.grouping.specs.Groups.{balanceIf, partsOf, madeBy};
+ghost use Rattle.grouping.specs.Inside.{ruleOf, workOf};
 use kmeans::config::KMeansConfig;
 use kmeans::restart;
 use kmeans::training;
@@ -28,7 +34,7 @@ fn balance_if(
 )
     requires { ⌜ (length (now values) ≡ rows * dim) × (length (now centroids) ≡ length (now sizes) * dim) × Below rows (now part) ⌝ }
     requires { ⌜ (0 < length (now sizes)) × (length (now sizes) ≤ length (now part)) × (total (now sizes) ≡ length (now part)) × (length (now part) ≤ 4096) ⌝ }
-    ensures { λ _. ⌜ ((ps : List (List ℕ)) → now (part .entry) ≡ flat ps → now (sizes .entry) ≡ sizesOf ps → BalancedIf (rowsFrom dim rows (now (values .entry))) (rowsFrom dim (length (now (sizes .entry))) (now (centroids .entry))) weight ps (now (part .exit)) (now (sizes .exit))) ⌝ }
+    ensures { λ _. ⌜ ((ps : List (List ℕ)) → now (part .entry) ≡ flat ps → now (sizes .entry) ≡ sizesOf ps → (now (part .exit) ≡ flat (balanceIf (lt zero32 weight) (rowsFrom dim rows (now (values .entry))) (rowsFrom dim (length (now (sizes .entry))) (now (centroids .entry))) (share (length (flat ps)) (length ps)) weight ps)) × (now (sizes .exit) ≡ sizesOf (balanceIf (lt zero32 weight) (rowsFrom dim rows (now (values .entry))) (rowsFrom dim (length (now (sizes .entry))) (now (centroids .entry))) (share (length (flat ps)) (length ps)) weight ps))) ⌝ }
 {
     if 0.0f32 < weight {
         balance::balance_clusters(values, dim, rows, centroids, weight, part, sizes);
@@ -56,9 +62,10 @@ pub fn split_cluster(
     trial_labels: &mut [u16],
     places: &mut [u16],
 ) -> Cursor
-    requires { ⌜ SplitRoom dim rows (length (now part)) (length (now sizes)) (length (now values)) (length (now copied)) (length (now labels)) (length (now gathered)) (length (now training)) (length (now own)) (length (now «training_own»)) (length (now distances)) (length (now «trial_labels»)) (length (now places)) ⌝ }
+    requires { ⌜ (Limits dim (length (now sizes)) (length (now part)) × (length (now sizes) ≤ length (now part))) × ((length (now values) ∷ length (now copied) ∷ length (now labels) ∷ length (now gathered) ∷ length (now training) ∷ length (now own) ∷ length (now «training_own») ∷ length (now distances) ∷ length (now «trial_labels») ∷ length (now places) ∷ []) ≡ workOf dim rows (length (now part))) ⌝ }
     requires { ⌜ Below rows (now part) × (cursor .at < length (now draws)) ⌝ }
-    ensures { λ r. ⌜ Split (ruleOf (now (draws .entry)) dim (rowsFrom dim rows (now (values .entry))) (length (now (sizes .entry))) weight) rows (now (part .entry)) cursor r (now (part .exit)) (now (sizes .exit)) ⌝ }
+    ensures { λ r. ⌜ Below rows (now (part .exit)) × (total (now (sizes .exit)) ≡ length (now (part .exit))) ⌝ }
+    ensures { λ r. ⌜ Drawn {A = List ℕ × List ℕ} (now (draws .entry)) cursor r (now (part .exit), now (sizes .exit)) (λ n. (flat (partsOf (ruleOf (now (draws .entry)) dim (rowsFrom dim rows (now (values .entry))) (length (now (sizes .entry))) weight) n (now (part .entry))), sizesOf (partsOf (ruleOf (now (draws .entry)) dim (rowsFrom dim rows (now (values .entry))) (length (now (sizes .entry))) weight) n (now (part .entry))))) (λ n. madeBy (ruleOf (now (draws .entry)) dim (rowsFrom dim rows (now (values .entry))) (length (now (sizes .entry))) weight) n (now (part .entry))) ⌝ }
 {
     let k = sizes.len();
     let width = k * dim;

@@ -1,14 +1,15 @@
 // The waiting groups (the source's HierarchicalClustering::cluster). The row order holds the finished groups first, as listed, and then
 // the waiting ones, the next to be taken first; `waiting` is the stack of their ends.
 ghost use mathlib.Core.Path.{_≡_};
-ghost use mathlib.Core.List.{_++_};
+ghost use mathlib.Core.List.{[], _∷_, _++_};
 ghost use Prim.Native.Nat.{_+_, _*_, _≤_, _<_};
 ghost use lib.ListN.{length, take, replicate};
 ghost use Rattle.sums.specs.Rows.{rowsFrom};
 ghost use Rattle.sums.specs.Tables.{upTo};
 ghost use Rattle.grouping.specs.Groups.{grouping};
 ghost use Rattle.parts.specs.Inside.{total};
-ghost use Rattle.grouping.specs.Inside.{ruleOf, pushes, GroupRoom, Grouped};
+ghost use Rattle.kmeans.specs.Inside.{Limits};
+ghost use Rattle.grouping.specs.Inside.{ruleOf, pushes, workOf, Grouped};
 use crate::call::GroupingAnswer;
 use crate::split;
 use sums::cells;
@@ -56,7 +57,7 @@ pub fn cluster(
     trial_labels: &mut [u16],
     places: &mut [u16],
 ) -> GroupingAnswer
-    requires { ⌜ GroupRoom dim (length (now order)) (length (now sizes)) (length (now values)) (length (now ends)) (length (now waiting)) (length (now copied)) (length (now labels)) (length (now gathered)) (length (now training)) (length (now own)) (length (now «training_own»)) (length (now distances)) (length (now «trial_labels»)) (length (now places)) ⌝ }
+    requires { ⌜ Limits dim (length (now sizes)) (length (now order)) × ((length (now ends) ∷ length (now waiting) ∷ length (now values) ∷ length (now copied) ∷ length (now labels) ∷ length (now gathered) ∷ length (now training) ∷ length (now own) ∷ length (now «training_own») ∷ length (now distances) ∷ length (now «trial_labels») ∷ length (now places) ∷ []) ≡ (length (now order) ∷ length (now order) ∷ workOf dim (length (now order)) (length (now order)))) ⌝ }
     requires { ⌜ (now order ≡ upTo (length (now order))) × ((now ends ≡ replicate (length (now ends)) 65535) × ((0 < length (now draws)) × (budget < 65536))) ⌝ }
     ensures { λ r. ⌜ Grouped (grouping (ruleOf (now (draws .entry)) dim (rowsFrom dim (length (now (order .entry))) (now (values .entry))) (length (now (sizes .entry))) weight) limit budget) (length (now (order .entry))) r (now (order .exit)) (now (ends .exit)) ⌝ }
 {

@@ -11,14 +11,18 @@ use lib.Ieee.{Float}
 use lib.ListN.{length, getD, take, replicate}
 use Rattle.sums.specs.declared.draws.Cursor.{Cursor}
 use Rattle.sums.specs.Rows.{Row}
-use Rattle.sums.specs.Draws.{cursorAt}
+use Rattle.sums.specs.Draws.{cursorAt, Drawn}
+use Rattle.sums.specs.Cells.{Below}
 use Rattle.labels.specs.declared.nearest.Nearest.{Nearest}
 use Rattle.labels.specs.Label.{nearests, labelsOf}
 use Rattle.labels.specs.Pool.{pool}
-use Rattle.labels.specs.Inside.{alike, Assigned}
+use Rattle.labels.specs.Inside.{alike}
+use Rattle.labels.proofs.Assigns.{Assigned}
 use Rattle.kmeans.specs.declared.lloyd.Iterated.{Iterated}
 use Rattle.kmeans.specs.KMeans.{Fit, update, iterate, updateFrom, drawsAfter, countsFrom, timesInverse}
-use Rattle.kmeans.specs.Inside.{Updated, Filled, Summed, PoolFor, Iteration, Fitted}
+use Rattle.kmeans.specs.Inside.{Filled}
+use Rattle.kmeans.proofs.Summing.{Summed}
+use Rattle.kmeans.proofs.Updates.{Updated}
 
 -- ---- a pool cut to as many as there are clusters
 pub update-cut : (draws : List ℕ) (training : List Row) (n cap : ℕ) (pool counts : List ℕ) (sums : List Row) → length counts ≤ cap
@@ -81,16 +85,31 @@ alike-same (x ∷ xs) (y ∷ ys) l e = go (eqb x y) refl e (alike-same xs ys (su
     go false p q later = absurd (false≢true q)
 
 -- ---- one iteration: it stops, or it goes on to the update
+
+-- the pool that an update looks at: only where some cluster is empty does it have to be the pool
+abbrev pub PoolFor : Bool → List Float → ℕ → ℕ → ℕ → List ℕ → Type 0
+PoolFor filled distances block cap r at = ((r ≤ length at) × Below (length distances) (take r at)) × (filled ≡ false → take r at ≡ take cap (pool block distances))
+
+-- the labels are found; then the update is made, or everything stays
+abbrev pub Iteration : List ℕ → ℕ → ℕ → ℕ → List Row → List Row → List Row → List ℕ → List ℕ → Bool → Cursor → Iterated → Type 0
+Iteration draws k dim block training centroids₀ centroids labels₀ labels again cursor r =
+    let after : ℕ → Fit = λ n. update draws k dim block training n (nearests centroids₀ training) in
+    (labels ≡ labelsOf (nearests centroids₀ training))
+    × ((r .settled ≡ false → Drawn draws cursor (r .cursor) centroids (λ n. after n .centroids) (λ n. after n .made))
+    × ((r .settled ≡ true → (again ≡ true) × ((labels ≡ labels₀) × Filled (countsFrom (replicate k 0) labels)))
+    × (r .settled ≡ true → (centroids ≡ centroids₀) × (r .cursor ≡ cursor))))
+
 module _ (draws : List ℕ) (k dim block : ℕ) (training centroids : List Row) (labels₀ labels : List ℕ) (distances : List Float) (same : Bool) (counts : List ℕ) (totals : List Row)
     (a : Assigned centroids training labels₀ labels distances same) (s : Summed dim k labels training counts totals) (again : Bool) (cursor : Cursor) where
-  pub iteration-stops : cursor .at < length draws → length labels₀ ≡ length labels → (again ≡ true) × ((same ≡ true) × Filled counts)
+  pub iteration-stops : length labels₀ ≡ length labels → (again ≡ true) × ((same ≡ true) × Filled counts)
       → Iteration draws k dim block training centroids centroids labels₀ labels again cursor (record { settled = true; cursor = cursor })
-  iteration-stops i l h = record {
-    inside = i;
-    labels-are = a .labels-are;
-    went-on = λ e. absurd (false≢true (sym e));
-    stopped = λ e. record { later = h .0; same = sym (alike-same labels₀ labels l (sym (a .same-is) ∙ h .1 .0)); filled = rw (s .counts-are) at (h .1 .1); stays = refl; undrawn = refl };
-  }
+  iteration-stops l h = (
+    a .0,
+    (
+      λ e. absurd (false≢true (sym e)),
+      (λ e. (h .0, (sym (alike-same labels₀ labels l (sym (a .1 .1) ∙ h .1 .0)), rw (s .0) at (h .1 .1))), λ e. (refl, refl)),
+    ),
+  )
 
   -- the positions at hand serve as the whole pool does: they are its first, or no cluster is empty
   pool-serves : (filled : Bool) (cap r : ℕ) (at : List ℕ) → (filled ≡ true → Filled counts) → PoolFor filled distances block cap r at → length counts ≤ cap → (n : ℕ)
@@ -99,21 +118,25 @@ module _ (draws : List ℕ) (k dim block : ℕ) (training centroids : List Row) 
     filled-update draws training n n (take r at) (pool block distances) counts totals (f refl),
     filled-after n (take r at) counts (f refl) ∙ sym (filled-after n (pool block distances) counts (f refl)),
   )
-  pool-serves false cap r at f p l n = rw (p .pooled refl) (update-cut draws training n cap (pool block distances) counts totals l, after-cut n cap (pool block distances) counts l)
+  pool-serves false cap r at f p l n = rw (p .1 refl) (update-cut draws training n cap (pool block distances) counts totals l, after-cut n cap (pool block distances) counts l)
 
   pub iteration-goes : (filled : Bool) (used : ℕ) (at : List ℕ) (centroids' : List Row) (r : Cursor) → (filled ≡ true → Filled counts) → PoolFor filled distances block k used at → length counts ≡ k
       → Updated draws training (take used at) counts totals cursor r centroids' → Iteration draws k dim block training centroids centroids' labels₀ labels again cursor (record { settled = false; cursor = r })
   unfolding update
-  iteration-goes filled used at centroids' r f p l u = record {
-    inside = u .inside;
-    labels-are = a .labels-are;
-    went-on = λ z n q.
-        let serves = pool-serves filled k used at f p (omega arith) n in (
-          u .steps n q .0 ∙ (serves .0 ∙ rw (s .counts-are, s .totals-are, a .labels-are, a .distances-are)),
-          u .steps n q .1 ∙ ap (λ (m : ℕ). cursorAt draws m) (serves .1 ∙ rw (s .counts-are, a .labels-are, a .distances-are)),
-        );
-    stopped = λ z. absurd (false≢true z);
-  }
+  iteration-goes filled used at centroids' r f p l u = (
+    a .0,
+    (
+      λ z. record {
+        inside = u .inside;
+        steps = λ n q.
+            let serves = pool-serves filled k used at f p (omega arith) n in (
+              u .steps n q .0 ∙ (serves .0 ∙ rw (s .0, s .1, a .0, a .1 .0)),
+              u .steps n q .1 ∙ ap (λ (m : ℕ). cursorAt draws m) (serves .1 ∙ rw (s .0, a .0, a .1 .0)),
+            );
+      },
+      (λ z. absurd (false≢true z), λ z. absurd (false≢true z)),
+    ),
+  )
 
 -- ---- the iterations in turn
 
@@ -129,6 +152,12 @@ pub record Lengths (centroids₀ : List Float) (labels₀ : List ℕ) (distances
 
 same-fit : (f : Fit) (c : List Row) (n : ℕ) → f .centroids ≡ c → f .made ≡ n → f ≡ record { centroids = c; made = n }
 same-fit f c n p q = rw (← p, ← q)
+
+-- all the iterations asked for, from centroids and a cursor
+abbrev pub Fitted : List ℕ → ℕ → ℕ → ℕ → List Row → ℕ → List Row → Cursor → List Row → Cursor → Type 0
+Fitted draws k dim block training left centroids₀ cursor centroids r =
+    let after : ℕ → Fit = λ n. iterate draws k dim block training left (record { centroids = centroids₀; made = n }) in
+    Drawn draws cursor r centroids (λ n. after n .centroids) (λ n. after n .made)
 
 module _ (draws : List ℕ) (k dim block : ℕ) (training : List Row) (total : ℕ) (centroids₀ : List Row) (c₀ : Cursor) where
   -- the centroids are what an iteration with these labels gave
@@ -162,32 +191,33 @@ module _ (draws : List ℕ) (k dim block : ℕ) (training : List Row) (total : �
     unfolding iterate
     running-step centroids' labels' r again l t e = record {
       within = omega arith;
-      inside = t .inside;
+      inside = t .1 .0 e .inside;
       left = λ n p.
           let old = h .left n p in
-          let w = t .went-on e (old .made) (old .place) in
+          let w = t .1 .0 e .steps (old .made) (old .place) in
           let z : total - i ≡ suc (total - (i + 1)) = omega arith in
           record {
             made = update draws k dim block training (old .made) (nearests centroids training) .made;
             place = w .1;
             done = rw (w .0) (rw z at (old .done));
-            prior = λ q. record { found = nearests centroids training; after = old .made; were = t .labels-are; gave = w .0 };
+            prior = λ q. record { found = nearests centroids training; after = old .made; were = t .0; gave = w .0 };
           };
     }
 
     pub running-stop : (centroids' : List Row) (labels' : List ℕ) (r : Iterated) → i < total
         → Iteration draws k dim block training centroids centroids' labels labels' (ltb 0 i) cursor r → r .settled ≡ true → Fitted draws k dim block training total centroids₀ c₀ centroids' (r .cursor)
     running-stop centroids' labels' r l t e = record {
-      inside = t .inside;
+      inside = rw (t .1 .1 .1 e .1) (h .inside);
       steps = λ n p.
           let old = h .left n p in
-          let s = t .stopped e in
-          let q = old .prior (ltb-true 0 i (s .later)) in
-          let g = settles draws k dim block training (old .made) (q .after) (nearests centroids training) (q .found) (sym (t .labels-are) ∙ (s .same ∙ q .were)) (rw (t .labels-are) at (s .filled)) in
+          let s = t .1 .1 .0 e in
+          let o = t .1 .1 .1 e in
+          let q = old .prior (ltb-true 0 i (s .0)) in
+          let g = settles draws k dim block training (old .made) (q .after) (nearests centroids training) (q .found) (sym (t .0) ∙ (s .1 .0 ∙ q .were)) (rw (t .0) at (s .1 .1)) in
           let f : update draws k dim block training (old .made) (nearests centroids training) ≡ record { centroids = centroids; made = old .made }
           = same-fit _ _ _ (g .0 ∙ sym (q .gave)) (g .1) in
           let x = sym (fixed draws k dim block training (total - i) (record { centroids = centroids; made = old .made }) f) ∙ old .done in
-          (s .stays ∙ ap (λ (y : Fit). y .centroids) x, s .undrawn ∙ (old .place ∙ ap (λ (y : Fit). cursorAt draws (y .made)) x));
+          (o .0 ∙ ap (λ (y : Fit). y .centroids) x, o .1 ∙ (old .place ∙ ap (λ (y : Fit). cursorAt draws (y .made)) x));
     }
 
     pub running-end : total ≤ i → Fitted draws k dim block training total centroids₀ c₀ centroids cursor

@@ -12,7 +12,7 @@ use Rattle.kmeans.specs.declared.config.KMeansConfig.{KMeansConfig}
 use Rattle.kmeans.specs.declared.call.KMeansAnswer.{KMeansAnswer}
 use Rattle.kmeans.specs.declared.call.KMeansAnswer.the-variants.{Accepted, Refused}
 use Rattle.kmeans.specs.KMeans.{Result, kmeans}
-use Rattle.kmeans.specs.Call.{Figures, told, Gives}
+use Rattle.kmeans.specs.Call.{told, Gives}
 use Rattle.kmeans.proofs.Clusters.{kmeans-clustered}
 
 -- ---- every row has a label, and where there is a cluster every label is a cluster's number
@@ -25,13 +25,10 @@ pub centroids-sized : (draws : List ℕ) (n : ℕ) (config : KMeansConfig) (k di
 centroids-sized draws n config k dim rows h = kmeans-clustered draws n config k dim rows h .centred
 
 -- ---- the answer and every cell follow from the call alone: any two results that a call may give are the same
-abbrev figuresOf : Float → ℕ → Figures
-figuresOf objective restart = record { objective = objective; restart = restart }
-
 told-once : (r r′ : KMeansAnswer) → told r ≡ told r′ → r ≡ r′
 told-once (Accepted o n) (Accepted o′ n′) e =
-    let z : figuresOf o n ≡ figuresOf o′ n′ = cc in
-    rw (ap (λ (f : Figures). f .objective) z, ap (λ (f : Figures). f .restart) z)
+    let z : _≡_ {A = Float × ℕ} (o, n) (o′, n′) = cc in
+    rw (ap (λ (f : Float × ℕ). f .0) z, ap (λ (f : Float × ℕ). f .1) z)
 told-once (Accepted o n) (Refused number) e = let z : _≡_ {A = ℕ} 0 1 = cc in absurd (omega arith)
 told-once (Refused number) (Accepted o n) e = let z : _≡_ {A = ℕ} 0 1 = cc in absurd (omega arith)
 told-once (Refused number) (Refused number′) e = let z : number ≡ number′ = cc in rw z

@@ -11,11 +11,48 @@ use lib.ListN.{length, take}
 use Rattle.sums.specs.declared.draws.Cursor.{Cursor}
 use Rattle.sums.specs.Rows.{Row, rowsAt}
 use Rattle.sums.specs.Tables.{upTo}
-use Rattle.sums.specs.Draws.{cursorAt, pick, exchangesFrom, Picked}
+use Rattle.sums.specs.Draws.{cursorAt, pick, exchangesFrom, Drawn}
+use Rattle.sums.specs.Cells.{Below}
+use Rattle.sums.specs.Sums.{zero32}
+use Rattle.labels.specs.Label.{nearests, labelsOf}
 use Rattle.kmeans.specs.declared.config.KMeansConfig.{KMeansConfig}
 use Rattle.kmeans.specs.declared.restart.Kept.{Kept}
-use Rattle.kmeans.specs.KMeans.{Run, target, trainingIf, trainingDraws, kmeans, firstFit, keepBetter, resultOf, fitOf, restartsFrom, restartsOf}
-use Rattle.kmeans.specs.Inside.{Room, Spaces, Workspace, Selected, Fitted, Restarted, Finished, Begun, Tried, Restarts, Ran, heldOf}
+use Rattle.kmeans.specs.KMeans.{Fit, Run, target, trainingIf, trainingDraws, iterate, kmeans, firstFit, objectiveFrom, keepBetter, resultOf, fitOf, restartsFrom, restartsOf}
+use Rattle.kmeans.specs.Inside.{heldOf}
+use Rattle.kmeans.proofs.Rooms.{Room, Spaces, Workspace}
+use Rattle.kmeans.proofs.Selects.{Selected}
+use Rattle.kmeans.proofs.Iterations.{Fitted}
+
+module _ (draws : List ℕ) (k dim block : ℕ) (training : List Row) (iterations : ℕ) where
+  -- one restart, after n draws
+  abbrev pub oneFit : ℕ → Fit
+  oneFit n = iterate draws k dim block training iterations (firstFit draws k training n)
+
+  abbrev pub Restarted : Cursor → List Row → Cursor → Type 0
+  Restarted cursor centroids r = Drawn draws cursor r centroids (λ n. oneFit n .centroids) (λ n. oneFit n .made)
+
+  -- the first restart: it is the one kept so far
+  abbrev pub Begun : List Row → Cursor → Kept → List ℕ → List Row → Type 0
+  Begun rows cursor r labels centroids = Drawn draws cursor (r .cursor) (heldOf labels centroids r) (λ n. resultOf rows 0 (oneFit n .centroids)) (λ n. oneFit n .made)
+
+  -- one restart more, kept where its objective is strictly smaller
+  abbrev pub Tried : List Row → ℕ → Kept → Kept → List ℕ → List ℕ → List Row → List Row → Type 0
+  Tried rows number best r labels₀ labels centroids₀ centroids =
+      Drawn draws (best .cursor) (r .cursor) (heldOf labels centroids r) (λ n. keepBetter (resultOf rows number (oneFit n .centroids)) (heldOf labels₀ centroids₀ best)) (λ n. oneFit n .made)
+
+-- all rows labelled by the centroids, and the objective
+abbrev pub Finished : List Row → List Row → List ℕ → Float → Type 0
+Finished rows centroids labels objective = (labels ≡ labelsOf (nearests centroids rows)) × (objective ≡ objectiveFrom zero32 centroids (labelsOf (nearests centroids rows)) rows)
+
+-- all restarts, and the whole run
+abbrev pub Restarts : List ℕ → KMeansConfig → ℕ → ℕ → List Row → List Row → Cursor → Kept → List ℕ → List Row → Type 0
+Restarts draws config k dim training rows cursor r labels centroids =
+    let after : ℕ → Run = λ n. restartsOf draws config k dim training rows (config .nredo - 1) n in
+    Drawn draws cursor (r .cursor) (heldOf labels centroids r) (λ n. after n .result) (λ n. after n .made)
+
+abbrev pub Ran : List ℕ → KMeansConfig → ℕ → ℕ → List Row → Cursor → Kept → List ℕ → List Row → Type 0
+Ran draws config k dim rows cursor r labels centroids =
+    Drawn draws cursor (r .cursor) (heldOf labels centroids r) (λ n. kmeans draws n config k dim rows .result) (λ n. kmeans draws n config k dim rows .made)
 
 -- the training rows have room, and the centroids that a restart is to fill
 pub trained : {dim rows aim k values own training centroids distances trialLabels places : ℕ} → Spaces dim rows aim k values own training centroids distances trialLabels places
@@ -37,13 +74,13 @@ trained s block held totals at b h t a = record {
 }
 
 pub restarted : (draws : List ℕ) (k dim block iterations m : ℕ) (training centroids₀ centroids : List Row) (places : List ℕ) (cursor next r : Cursor)
-    → m ≡ length training → Picked draws cursor k m next places → centroids₀ ≡ rowsAt training (take k places)
+    → m ≡ length training → Below m places × Drawn draws cursor next places (λ n. exchangesFrom draws m n 0 k (upTo m)) (λ n. n + k) → centroids₀ ≡ rowsAt training (take k places)
     → Fitted draws k dim block training iterations centroids₀ next centroids r → Restarted draws k dim block training iterations cursor centroids r
 unfolding firstFit pick
 restarted draws k dim block iterations m training centroids₀ centroids places cursor next r e p g f = record {
   inside = f .inside;
   steps = λ n q.
-      let w = p .steps n q in
+      let w = p .1 .steps n q in
       let x : centroids₀ ≡ rowsAt training (take k (exchangesFrom draws (length training) n 0 k (upTo (length training)))) = g ∙ rw (w .0, e) in
       rw x at (f .steps (n + k) (w .1));
 }
@@ -51,8 +88,8 @@ restarted draws k dim block iterations m training centroids₀ centroids places 
 -- ---- the whole run
 
 -- with `aim` rows training, a call's slices leave room for the restarts
-pub spaces-of : {config : KMeansConfig} {dim rows k values centroids training own trainingOwn distances trialLabels places : ℕ}
-    → Workspace config dim rows k values centroids training own trainingOwn distances trialLabels places
+pub spaces-of : {points block dim rows k values centroids training own trainingOwn distances trialLabels places : ℕ}
+    → Workspace points block dim rows k values centroids training own trainingOwn distances trialLabels places
     → (aim k′ aim′ own′ training′ places′ : ℕ) → k ≤ aim → aim ≤ rows → k′ ≡ k → aim′ ≡ aim → own′ ≡ own → training′ ≡ aim * dim → places′ ≡ aim
     → Spaces dim rows aim′ k′ values own′ training′ centroids distances trialLabels places′
 spaces-of w aim k′ aim′ own′ training′ places′ l h ek ea eo et ep =
@@ -76,13 +113,13 @@ spaces-of w aim k′ aim′ own′ training′ places′ l h ek ea eo et ep =
 
 -- the rows selected, gathered, and all restarts over them
 pub ran : (draws : List ℕ) (config : KMeansConfig) (k dim aim m : ℕ) (training rows : List Row) (cursor next : Cursor) (r : Kept) (places labels : List ℕ) (centroids : List Row)
-    → length rows ≡ m → aim ≡ target k (config .«max_points_per_centroid») m → Selected draws aim m cursor next places → training ≡ rowsAt rows (take aim places)
+    → length rows ≡ m → aim ≡ target k (config .«max_points_per_centroid») m → Selected draws aim m cursor places next → training ≡ rowsAt rows (take aim places)
     → Restarts draws config k dim training rows next r labels centroids → Ran draws config k dim rows cursor r labels centroids
 unfolding kmeans
 ran draws config k dim aim m training rows cursor next r places labels centroids e t s g f = record {
   inside = f .inside;
   steps = λ n p.
-      let w = s .steps n p in
+      let w = s .1 .steps n p in
       let x : training ≡ rowsAt rows (trainingIf (eqb aim m) draws n aim m) = g ∙ rw (w .0) in
       rw (e, ← t, ← x) (f .steps (n + trainingDraws (eqb aim m) aim) (w .1));
 }
@@ -90,30 +127,30 @@ ran draws config k dim aim m training rows cursor next r places labels centroids
 -- ---- the first restart
 pub begun : (draws : List ℕ) (k dim block : ℕ) (training rows : List Row) (iterations : ℕ) (cursor : Cursor) (labels : List ℕ) (centroids : List Row) (next : Cursor) (objective : Float)
     → Restarted draws k dim block training iterations cursor centroids next → Finished rows centroids labels objective
-    → Begun draws k dim block training rows iterations cursor (record { objective = objective; restart = 0; cursor = next }) labels centroids
+    → Begun draws k dim block training iterations rows cursor (record { objective = objective; restart = 0; cursor = next }) labels centroids
 unfolding resultOf
 begun draws k dim block training rows iterations cursor labels centroids next objective s f = record {
   inside = s .inside;
-  steps = λ n p. let w = s .steps n p in (rw (← w .0, ← f .objective-is, ← f .labels-are), w .1);
+  steps = λ n p. let w = s .steps n p in (rw (← w .0, ← f .1, ← f .0), w .1);
 }
 
 -- ---- one restart more
 module _ (draws : List ℕ) (k dim block : ℕ) (training rows : List Row) (iterations number : ℕ) (best : Kept) (labels₀ labels : List ℕ) (centroids₀ centroids : List Row) (next : Cursor) (objective : Float)
     (s : Restarted draws k dim block training iterations (best .cursor) centroids next) (f : Finished rows centroids labels objective) where
   pub tried-better : lt objective (best .objective) ≡ true
-      → Tried draws k dim block training rows iterations number best (record { objective = objective; restart = number; cursor = next }) labels₀ labels centroids₀ centroids
+      → Tried draws k dim block training iterations rows number best (record { objective = objective; restart = number; cursor = next }) labels₀ labels centroids₀ centroids
   unfolding keepBetter resultOf
   tried-better h = record {
     inside = s .inside;
-    steps = λ n p. let w = s .steps n p in (rw (← w .0, ← f .objective-is, h, ← f .labels-are), w .1);
+    steps = λ n p. let w = s .steps n p in (rw (← w .0, ← f .1, h, ← f .0), w .1);
   }
 
   pub tried-kept : lt objective (best .objective) ≡ false
-      → Tried draws k dim block training rows iterations number best (record { objective = best .objective; restart = best .restart; cursor = next }) labels₀ labels₀ centroids₀ centroids₀
+      → Tried draws k dim block training iterations rows number best (record { objective = best .objective; restart = best .restart; cursor = next }) labels₀ labels₀ centroids₀ centroids₀
   unfolding keepBetter resultOf
   tried-kept h = record {
     inside = s .inside;
-    steps = λ n p. let w = s .steps n p in (rw (← w .0, ← f .objective-is, h), w .1);
+    steps = λ n p. let w = s .steps n p in (rw (← w .0, ← f .1, h), w .1);
   }
 
 -- ---- the restarts in turn
@@ -160,7 +197,7 @@ module _ (draws : List ℕ) (config : KMeansConfig) (k dim : ℕ) (training rows
 
   module _ {labels : List ℕ} {centroids : List Row} {best : Kept} {number : ℕ} (h : Trying labels centroids best number) where
     pub trying-step : (labels' : List ℕ) (centroids' : List Row) (r : Kept) → number < config .nredo
-        → Tried draws k dim (config .«decode_block_size») training rows (config .niter) number best r labels labels' centroids centroids' → Trying labels' centroids' r (number + 1)
+        → Tried draws k dim (config .«decode_block_size») training (config .niter) rows number best r labels labels' centroids centroids' → Trying labels' centroids' r (number + 1)
     unfolding restartsFrom fitOf
     trying-step labels' centroids' r l t = record {
       inside = t .inside;
@@ -171,7 +208,7 @@ module _ (draws : List ℕ) (config : KMeansConfig) (k dim : ℕ) (training rows
           record { made = fitOf draws config k dim training rows (old .made) .made; place = w .1; done = rw (add-one number, w .0) (rw z at (old .done)) };
     }
 
-    pub trying-end : (cursor : Cursor) → config .nredo ≤ number → Begun draws k dim (config .«decode_block_size») training rows (config .niter) cursor best₀ labels₀ centroids₀
+    pub trying-end : (cursor : Cursor) → config .nredo ≤ number → Begun draws k dim (config .«decode_block_size») training (config .niter) rows cursor best₀ labels₀ centroids₀
         → Restarts draws config k dim training rows cursor best labels centroids
     unfolding restartsFrom restartsOf fitOf
     trying-end cursor l b = record {

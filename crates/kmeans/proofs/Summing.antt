@@ -13,11 +13,14 @@ use lib.Dec.{eqb}
 use lib.Ieee.{Float}
 use lib.ListN.{length, getD, set, take, drop, length-set, length-replicate, drop-of-length-le, replicate}
 use lib.Seq.{drop-cons, getD-set-same, getD-set-other, set-out}
-use Rattle.sums.specs.Rows.{rowsFrom}
-use Rattle.sums.specs.Sums.{addRow, zero32}
+use Rattle.sums.specs.Rows.{Row, rowsFrom}
+use Rattle.sums.specs.Sums.{addRow, zero32, zeroRow}
 use Rattle.sums.proofs.Rows.{rows-length, part-put, part-row, rows-alike}
 use Rattle.kmeans.specs.KMeans.{countsFrom, sumsFrom}
-use Rattle.kmeans.specs.Inside.{Summed}
+
+-- counts and sums of the clusters
+abbrev pub Summed : ℕ → ℕ → List ℕ → List Row → List ℕ → List Row → Type 0
+Summed dim k labels training counts totals = (counts ≡ countsFrom (replicate k 0) labels) × (totals ≡ sumsFrom (replicate k (zeroRow dim)) labels training)
 
 pub record Summing (training : List Float) (dim : ℕ) (labels counts₀ : List ℕ) (totals₀ : List Float) (counts : List ℕ) (totals : List Float) (i : ℕ) : Type 0 where
   pub within : i ≤ length labels
@@ -78,7 +81,4 @@ module _ {training : List Float} {dim : ℕ} {labels counts₀ : List ℕ} {tota
   summing-end k e f l =
       let z = drop-of-length-le labels {i = i} l in
       let n : length counts₀ ≡ k = ap length e ∙ length-replicate k 0 in
-      record {
-        counts-are = rw (z, e) at (h .counted);
-        totals-are = rw (z, n, f, rows-alike dim k zero32) at (h .totalled);
-      }
+      (rw (z, e) at (h .counted), rw (z, n, f, rows-alike dim k zero32) at (h .totalled))

@@ -10,10 +10,10 @@ use lib.Seq.{drop-cons, take-suc-set, append-snoc, take-all}
 use Rattle.sums.specs.declared.draws.Cursor.{Cursor}
 use Rattle.sums.specs.declared.draws.Draw.{Draw}
 use Rattle.sums.specs.Rows.{Row}
-use Rattle.sums.specs.Draws.{cursorAt, Stepped}
+use Rattle.sums.specs.Draws.{drawn, cursorAt, Drawn}
 use Rattle.kmeans.specs.declared.update.Refill.{Refill}
 use Rattle.kmeans.specs.KMeans.{timesInverse, updateFrom, drawsAfter}
-use Rattle.kmeans.specs.Inside.{Turned, Updated}
+use Rattle.kmeans.specs.Inside.{Turned}
 
 -- ---- one cluster
 module _ (draws : List ℕ) (training : List Row) (pool : List ℕ) (s : Row) (state : Refill) (row : Row) where
@@ -33,7 +33,7 @@ module _ (draws : List ℕ) (training : List Row) (pool : List ℕ) (s : Row) (s
     turn = λ n p. rw (drop-cons pool (state .used) 0 h, add-one) (record { made = n; place = p; rows = λ counts sums. rw e; after = λ counts. refl });
   }
 
-  pub turned-drawn : length pool ≤ state .used → (d : Draw) → Stepped draws (state .cursor) d → row ≡ getD training (d .number % length training) []
+  pub turned-drawn : length pool ≤ state .used → (d : Draw) → Drawn draws (state .cursor) (d .next) (d .number) (λ n. drawn draws n) (λ n. suc n) → row ≡ getD training (d .number % length training) []
       → Turned draws training pool 0 s state (record { used = state .used; cursor = d .next }) row
   unfolding updateFrom drawsAfter
   turned-drawn h d t e = record {
@@ -45,6 +45,9 @@ module _ (draws : List ℕ) (training : List Row) (pool : List ℕ) (s : Row) (s
 
 -- ---- the clusters in turn: those from j on are left
 module _ (draws : List ℕ) (training : List Row) (pool counts : List ℕ) (sums : List Row) where
+  abbrev pub Updated : Cursor → Cursor → List Row → Type 0
+  Updated cursor r rows = Drawn draws cursor r rows (λ n. updateFrom draws training n pool counts sums) (λ n. drawsAfter n pool counts)
+
   pub record Left (n : ℕ) (rows : List Row) (state : Refill) (j : ℕ) : Type 0 where
     pub made : ℕ
     pub place : state .cursor ≡ cursorAt draws made
@@ -83,7 +86,7 @@ module _ (draws : List ℕ) (training : List Row) (pool counts : List ℕ) (sums
           };
     }
 
-    pub updating-end : length counts ≤ j → Updated draws training pool counts sums c₀ (state .cursor) rows
+    pub updating-end : length counts ≤ j → Updated c₀ (state .cursor) rows
     unfolding updateFrom drawsAfter
     updating-end l = record {
       inside = h .inside;

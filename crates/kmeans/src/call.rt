@@ -6,8 +6,8 @@ ghost use Prim.Native.Nat.{_*_, _≤_, _<_};
 ghost use lib.Dec.{eqb};
 ghost use lib.ListN.{length, replicate};
 ghost use Rattle.sums.specs.Sums.{zero32};
-ghost use Rattle.sums.specs.Refusals.{lowest};
-ghost use Rattle.kmeans.specs.Call.{rangesFit, lengthsFit, lentOf, kmeansRefusal, kmeansCall, Gives, Cleared};
+ghost use Rattle.sums.specs.Refusals.{Cleared};
+ghost use Rattle.kmeans.specs.Call.{rangesFit, lengthsFit, kmeansRefusal, kmeansCall, Gives};
 use crate::config::KMeansConfig;
 use crate::restart;
 use crate::restart::Kept;
@@ -49,17 +49,18 @@ fn lengths_fit(
     places: usize,
 ) -> bool
     requires { ⌜ (rows ≤ 4096) × ((dim ≤ 64) × (k ≤ 64)) ⌝ }
-    ensures { λ r. ⌜ r ≡ lengthsFit rows dim k values (lentOf labels centroids training own «training_own» distances «trial_labels» places) ⌝ }
+    ensures { λ r. ⌜ r ≡ lengthsFit rows dim k values (labels ∷ centroids ∷ training ∷ own ∷ «training_own» ∷ distances ∷ «trial_labels» ∷ places ∷ []) ⌝ }
 {
     let cells = rows * dim;
-    let a = checks::both(checks::same(values, cells), checks::same(labels, rows));
-    let b = checks::both(a, checks::same(centroids, k * dim));
-    let c = checks::both(b, checks::same(training, cells));
-    let d = checks::both(c, checks::same(own, rows));
-    let e = checks::both(d, checks::same(training_own, rows));
-    let f = checks::both(e, checks::same(distances, rows));
-    let g = checks::both(f, checks::same(trial_labels, rows));
-    checks::both(g, checks::same(places, rows))
+    let a = checks::both(checks::same(places, rows), true);
+    let b = checks::both(checks::same(trial_labels, rows), a);
+    let c = checks::both(checks::same(distances, rows), b);
+    let d = checks::both(checks::same(training_own, rows), c);
+    let e = checks::both(checks::same(own, rows), d);
+    let f = checks::both(checks::same(training, cells), e);
+    let g = checks::both(checks::same(centroids, k * dim), f);
+    let h = checks::both(checks::same(labels, rows), g);
+    checks::both(checks::same(values, cells), h)
 }
 
 fn refusal(
@@ -78,7 +79,7 @@ fn refusal(
     trial_labels: usize,
     places: usize,
 ) -> u32
-    ensures { λ r. ⌜ r ≡ kmeansRefusal rows dim k config draws values (lentOf labels centroids training own «training_own» distances «trial_labels» places) ⌝ }
+    ensures { λ r. ⌜ r ≡ kmeansRefusal rows dim k config draws values (labels ∷ centroids ∷ training ∷ own ∷ «training_own» ∷ distances ∷ «trial_labels» ∷ places ∷ []) ⌝ }
 {
     if !ranges_fit(rows, dim, k, config) {
         return 1;
@@ -129,9 +130,9 @@ fn answer(
     places: &mut [u16],
     rows: u32,
 ) -> KMeansAnswer
-    requires { ⌜ number ≡ kmeansRefusal rows dim k config (length (now draws)) (length (now values)) (lentOf (length (now labels)) (length (now centroids)) (length (now training)) (length (now own)) (length (now «training_own»)) (length (now distances)) (length (now «trial_labels»)) (length (now places))) ⌝ }
+    requires { ⌜ number ≡ kmeansRefusal rows dim k config (length (now draws)) (length (now values)) (length (now labels) ∷ length (now centroids) ∷ length (now training) ∷ length (now own) ∷ length (now «training_own») ∷ length (now distances) ∷ length (now «trial_labels») ∷ length (now places) ∷ []) ⌝ }
     requires { ⌜ (now labels ≡ replicate (length (now labels)) 65535) × (now centroids ≡ replicate (length (now centroids)) zero32) ⌝ }
-    ensures { λ r. ⌜ Gives (kmeansCall rows dim k config (now (draws .entry)) (now (values .entry)) (lentOf (length (now (labels .entry))) (length (now (centroids .entry))) (length (now (training .entry))) (length (now (own .entry))) (length (now («training_own» .entry))) (length (now (distances .entry))) (length (now («trial_labels» .entry))) (length (now (places .entry))))) (length (now (labels .entry))) (length (now (centroids .entry))) r (now (labels .exit)) (now (centroids .exit)) ⌝ }
+    ensures { λ r. ⌜ Gives (kmeansCall rows dim k config (now (draws .entry)) (now (values .entry)) (length (now (labels .entry)) ∷ length (now (centroids .entry)) ∷ length (now (training .entry)) ∷ length (now (own .entry)) ∷ length (now («training_own» .entry)) ∷ length (now (distances .entry)) ∷ length (now («trial_labels» .entry)) ∷ length (now (places .entry)) ∷ [])) (length (now (labels .entry))) (length (now (centroids .entry))) r (now (labels .exit)) (now (centroids .exit)) ⌝ }
 {
     if number != 0 {
         return KMeansAnswer::Refused(number);
@@ -174,8 +175,9 @@ pub fn run_kmeans_with_config(
     trial_labels: &mut [u16],
     places: &mut [u16],
 ) -> KMeansAnswer
-    ensures { λ r. ⌜ Gives (kmeansCall rows dim k config (now (draws .entry)) (now (values .entry)) (lentOf (length (now (labels .entry))) (length (now (centroids .entry))) (length (now (training .entry))) (length (now (own .entry))) (length (now («training_own» .entry))) (length (now (distances .entry))) (length (now («trial_labels» .entry))) (length (now (places .entry))))) (length (now (labels .entry))) (length (now (centroids .entry))) r (now (labels .exit)) (now (centroids .exit)) ⌝ }
-    ensures { λ r. ⌜ Cleared (lentOf (length (now (labels .entry))) (length (now (centroids .entry))) (length (now (training .entry))) (length (now (own .entry))) (length (now («training_own» .entry))) (length (now (distances .entry))) (length (now («trial_labels» .entry))) (length (now (places .entry)))) (now (training .exit)) (now (own .exit)) (now («training_own» .exit)) (now (distances .exit)) (now («trial_labels» .exit)) (now (places .exit)) ⌝ }
+    ensures { λ r. ⌜ Gives (kmeansCall rows dim k config (now (draws .entry)) (now (values .entry)) (length (now (labels .entry)) ∷ length (now (centroids .entry)) ∷ length (now (training .entry)) ∷ length (now (own .entry)) ∷ length (now («training_own» .entry)) ∷ length (now (distances .entry)) ∷ length (now («trial_labels» .entry)) ∷ length (now (places .entry)) ∷ [])) (length (now (labels .entry))) (length (now (centroids .entry))) r (now (labels .exit)) (now (centroids .exit)) ⌝ }
+    ensures { λ _. ⌜ Cleared zero32 (now (training .exit)) × (Cleared zero32 (now (own .exit)) × (Cleared zero32 (now («training_own» .exit)) × Cleared zero32 (now (distances .exit)))) ⌝ }
+    ensures { λ _. ⌜ Cleared 0 (now («trial_labels» .exit)) × Cleared 0 (now (places .exit)) ⌝ }
 {
     cells::fill(labels, 65535);
     cells::clear(centroids);

@@ -1,12 +1,18 @@
 // Lloyd's iterations (the source's run_lloyd_iterations and the counting half of assign_points_for_update).
 ghost use mathlib.Core.Path.{_≡_};
-ghost use mathlib.Core.Bool.{true, _&&_};
+ghost use mathlib.Core.Bool.{true, false, _&&_};
+ghost use mathlib.Core.List.{[], _∷_};
 ghost use Prim.Native.Nat.{_*_, _≤_, _<_};
-ghost use lib.ListN.{length};
+ghost use lib.ListN.{length, take, replicate};
 ghost use Rattle.sums.specs.Rows.{rowsFrom};
 ghost use Rattle.sums.specs.Cells.{Below};
+ghost use Rattle.sums.specs.Sums.{zeroRow};
+ghost use Rattle.sums.specs.Draws.{Drawn};
+ghost use Rattle.labels.specs.Label.{nearests, labelsOf};
+ghost use Rattle.labels.specs.Pool.{pool as Pool·pool};
 ghost use Rattle.labels.specs.Inside.{normsOf};
-ghost use Rattle.kmeans.specs.Inside.{Summed, Filled, Room, PoolFor, Iteration, Fitted};
+ghost use Rattle.kmeans.specs.KMeans.{countsFrom, sumsFrom, update as KMeans·update, iterate};
+ghost use Rattle.kmeans.specs.Inside.{Limits, Filled, roomOf};
 use crate::update;
 use labels::nearest;
 use labels::pool;
@@ -18,7 +24,8 @@ use sums::math;
 fn accumulate(training: &[f32], dim: usize, labels: &[u16], counts: &mut [u16], totals: &mut [f32])
     requires { ⌜ (length (now training) ≡ length (now labels) * dim) × (length (now totals) ≡ length (now counts) * dim) ⌝ }
     requires { ⌜ Below (length (now counts)) (now labels) × (length (now labels) ≤ 65535) ⌝ }
-    ensures { λ _. ⌜ Summed dim (length (now (counts .entry))) (now (labels .entry)) (rowsFrom dim (length (now (labels .entry))) (now (training .entry))) (now (counts .exit)) (rowsFrom dim (length (now (counts .entry))) (now (totals .exit))) ⌝ }
+    ensures { λ _. ⌜ now (counts .exit) ≡ countsFrom (replicate (length (now (counts .entry))) 0) (now (labels .entry)) ⌝ }
+    ensures { λ _. ⌜ rowsFrom dim (length (now (counts .entry))) (now (totals .exit)) ≡ sumsFrom (replicate (length (now (counts .entry))) (zeroRow dim)) (now (labels .entry)) (rowsFrom dim (length (now (labels .entry))) (now (training .entry))) ⌝ }
 {
     cells::fill(counts, 0);
     cells::clear(totals);
@@ -68,7 +75,8 @@ fn is_settled(again: bool, same: bool, filled: bool) -> bool
 // The positions that empty clusters are filled from, in front of `at`; where no cluster is empty none are gathered.
 fn pool_for(filled: bool, distances: &[f32], block: usize, at: &mut [u16]) -> usize
     requires { ⌜ (0 < length (now at)) × ((length (now distances) ≤ 65536) × (0 < block)) ⌝ }
-    ensures { λ r. ⌜ PoolFor filled (now (distances .entry)) block (length (now (at .entry))) r (now (at .exit)) ⌝ }
+    ensures { λ r. ⌜ (r ≤ length (now (at .exit))) × Below (length (now (distances .entry))) (take r (now (at .exit))) ⌝ }
+    ensures { λ r. ⌜ (filled ≡ false → take r (now (at .exit)) ≡ take (length (now (at .entry))) (Pool·pool block (now (distances .entry)))) ⌝ }
 {
     if filled {
         return 0;
@@ -93,10 +101,13 @@ fn run_iteration(
     totals: &mut [f32],
     at: &mut [u16],
 ) -> Iterated
-    requires { ⌜ Room dim (length (now labels)) (length (now counts)) block (length (now training)) (length (now own)) (length (now centroids)) (length (now distances)) (length (now totals)) (length (now at)) ⌝ }
+    requires { ⌜ (Limits dim (length (now counts)) (length (now labels)) × ((0 < length (now labels)) × (0 < block))) × ((length (now training) ∷ length (now own) ∷ length (now centroids) ∷ length (now distances) ∷ length (now totals) ∷ length (now at) ∷ []) ≡ roomOf dim (length (now labels)) (length (now counts))) ⌝ }
     requires { ⌜ now own ≡ normsOf (rowsFrom dim (length (now labels)) (now training)) ⌝ }
     requires { ⌜ cursor .at < length (now draws) ⌝ }
-    ensures { λ r. ⌜ Iteration (now (draws .entry)) (length (now (counts .entry))) dim block (rowsFrom dim (length (now (labels .entry))) (now (training .entry))) (rowsFrom dim (length (now (counts .entry))) (now (centroids .entry))) (rowsFrom dim (length (now (counts .entry))) (now (centroids .exit))) (now (labels .entry)) (now (labels .exit)) again cursor r ⌝ }
+    ensures { λ r. ⌜ now (labels .exit) ≡ labelsOf (nearests (rowsFrom dim (length (now (counts .entry))) (now (centroids .entry))) (rowsFrom dim (length (now (labels .entry))) (now (training .entry)))) ⌝ }
+    ensures { λ r. ⌜ (r .settled ≡ false → Drawn (now (draws .entry)) cursor (r .cursor) (rowsFrom dim (length (now (counts .entry))) (now (centroids .exit))) (λ n. (KMeans·update (now (draws .entry)) (length (now (counts .entry))) dim block (rowsFrom dim (length (now (labels .entry))) (now (training .entry))) n (nearests (rowsFrom dim (length (now (counts .entry))) (now (centroids .entry))) (rowsFrom dim (length (now (labels .entry))) (now (training .entry))))) .centroids) (λ n. (KMeans·update (now (draws .entry)) (length (now (counts .entry))) dim block (rowsFrom dim (length (now (labels .entry))) (now (training .entry))) n (nearests (rowsFrom dim (length (now (counts .entry))) (now (centroids .entry))) (rowsFrom dim (length (now (labels .entry))) (now (training .entry))))) .made)) ⌝ }
+    ensures { λ r. ⌜ (r .settled ≡ true → (again ≡ true) × ((now (labels .exit) ≡ now (labels .entry)) × Filled (countsFrom (replicate (length (now (counts .entry))) 0) (now (labels .exit))))) ⌝ }
+    ensures { λ r. ⌜ (r .settled ≡ true → ((rowsFrom dim (length (now (counts .entry))) (now (centroids .exit))) ≡ (rowsFrom dim (length (now (counts .entry))) (now (centroids .entry)))) × (r .cursor ≡ cursor)) ⌝ }
 {
     let k = counts.len();
     let rows = labels.len();
@@ -143,10 +154,10 @@ pub fn run_lloyd_iterations(
     totals: &mut [f32],
     at: &mut [u16],
 ) -> Cursor
-    requires { ⌜ Room dim (length (now labels)) (length (now counts)) block (length (now training)) (length (now own)) (length (now centroids)) (length (now distances)) (length (now totals)) (length (now at)) ⌝ }
+    requires { ⌜ (Limits dim (length (now counts)) (length (now labels)) × ((0 < length (now labels)) × (0 < block))) × ((length (now training) ∷ length (now own) ∷ length (now centroids) ∷ length (now distances) ∷ length (now totals) ∷ length (now at) ∷ []) ≡ roomOf dim (length (now labels)) (length (now counts))) ⌝ }
     requires { ⌜ now own ≡ normsOf (rowsFrom dim (length (now labels)) (now training)) ⌝ }
     requires { ⌜ cursor .at < length (now draws) ⌝ }
-    ensures { λ r. ⌜ Fitted (now (draws .entry)) (length (now (counts .entry))) dim block (rowsFrom dim (length (now (labels .entry))) (now (training .entry))) iterations (rowsFrom dim (length (now (counts .entry))) (now (centroids .entry))) cursor (rowsFrom dim (length (now (counts .entry))) (now (centroids .exit))) r ⌝ }
+    ensures { λ r. ⌜ Drawn (now (draws .entry)) cursor r (rowsFrom dim (length (now (counts .entry))) (now (centroids .exit))) (λ n. (iterate (now (draws .entry)) (length (now (counts .entry))) dim block (rowsFrom dim (length (now (labels .entry))) (now (training .entry))) iterations (record { centroids = (rowsFrom dim (length (now (counts .entry))) (now (centroids .entry))); made = n })) .centroids) (λ n. (iterate (now (draws .entry)) (length (now (counts .entry))) dim block (rowsFrom dim (length (now (labels .entry))) (now (training .entry))) iterations (record { centroids = (rowsFrom dim (length (now (counts .entry))) (now (centroids .entry))); made = n })) .made) ⌝ }
 {
     let mut place = cursor;
     let mut i = 0usize;

@@ -1,10 +1,16 @@
 // Restarts, and the one that is kept (the source's run_kmeans_flat).
 ghost use mathlib.Core.Path.{_≡_};
-ghost use Prim.Native.Nat.{_+_, _*_, _≤_, _<_};
+ghost use mathlib.Core.List.{[], _∷_};
+ghost use Prim.Native.Nat.{_+_, _-_, _*_, _≤_, _<_};
 ghost use lib.ListN.{length};
 ghost use Rattle.sums.specs.Rows.{rowsFrom};
+ghost use Rattle.sums.specs.Sums.{zero32};
+ghost use Rattle.sums.specs.Draws.{Drawn};
+ghost use Rattle.labels.specs.Label.{nearests, labelsOf};
 ghost use Rattle.labels.specs.Inside.{normsOf, Assignable};
-ghost use Rattle.kmeans.specs.Inside.{Room, Restarted, Finished, Spaces, Begun, Tried, Restarts, Workspace, Ran};
+ghost use Rattle.kmeans.specs.KMeans.{iterate, firstFit, objectiveFrom, resultOf, keepBetter, restartsOf, kmeans};
+ghost use Rattle.kmeans.specs.Call.{lengthsOf};
+ghost use Rattle.kmeans.specs.Inside.{Limits, roomOf, spacesOf, heldOf};
 use crate::config::KMeansConfig;
 use crate::lloyd;
 use crate::objective;
@@ -38,10 +44,10 @@ fn run_restart(
     totals: &mut [f32],
     at: &mut [u16],
 ) -> Cursor
-    requires { ⌜ Room dim (length (now labels)) (length (now counts)) block (length (now training)) (length (now own)) (length (now centroids)) (length (now distances)) (length (now totals)) (length (now at)) ⌝ }
+    requires { ⌜ (Limits dim (length (now counts)) (length (now labels)) × ((0 < length (now labels)) × (0 < block))) × ((length (now training) ∷ length (now own) ∷ length (now centroids) ∷ length (now distances) ∷ length (now totals) ∷ length (now at) ∷ []) ≡ roomOf dim (length (now labels)) (length (now counts))) ⌝ }
     requires { ⌜ now own ≡ normsOf (rowsFrom dim (length (now labels)) (now training)) ⌝ }
     requires { ⌜ (cursor .at < length (now draws)) × ((length (now places) ≡ length (now labels)) × (length (now counts) ≤ length (now labels))) ⌝ }
-    ensures { λ r. ⌜ Restarted (now (draws .entry)) (length (now (counts .entry))) dim block (rowsFrom dim (length (now (labels .entry))) (now (training .entry))) iterations cursor (rowsFrom dim (length (now (counts .entry))) (now (centroids .exit))) r ⌝ }
+    ensures { λ r. ⌜ Drawn (now (draws .entry)) cursor r (rowsFrom dim (length (now (counts .entry))) (now (centroids .exit))) (λ n. (iterate (now (draws .entry)) (length (now (counts .entry))) dim block (rowsFrom dim (length (now (labels .entry))) (now (training .entry))) iterations (firstFit (now (draws .entry)) (length (now (counts .entry))) (rowsFrom dim (length (now (labels .entry))) (now (training .entry))) n)) .centroids) (λ n. (iterate (now (draws .entry)) (length (now (counts .entry))) dim block (rowsFrom dim (length (now (labels .entry))) (now (training .entry))) iterations (firstFit (now (draws .entry)) (length (now (counts .entry))) (rowsFrom dim (length (now (labels .entry))) (now (training .entry))) n)) .made) ⌝ }
 {
     let k = counts.len();
     let rows = places.len();
@@ -75,7 +81,8 @@ fn finish_restart(
     distances: &mut [f32],
 ) -> f64
     requires { ⌜ Assignable dim k (now values) (now own) (now centroids) (length (now labels)) (length (now distances)) × (0 < k) ⌝ }
-    ensures { λ r. ⌜ Finished (rowsFrom dim (length (now (labels .entry))) (now (values .entry))) (rowsFrom dim k (now (centroids .entry))) (now (labels .exit)) r ⌝ }
+    ensures { λ _. ⌜ now (labels .exit) ≡ labelsOf (nearests (rowsFrom dim k (now (centroids .entry))) (rowsFrom dim (length (now (labels .entry))) (now (values .entry)))) ⌝ }
+    ensures { λ r. ⌜ r ≡ objectiveFrom zero32 (rowsFrom dim k (now (centroids .entry))) (labelsOf (nearests (rowsFrom dim k (now (centroids .entry))) (rowsFrom dim (length (now (labels .entry))) (now (values .entry))))) (rowsFrom dim (length (now (labels .entry))) (now (values .entry))) ⌝ }
 {
     nearest::assign_rows(values, own, dim, centroids, k, labels, distances);
     objective::compute_objective(values, dim, centroids, k, labels)
@@ -101,11 +108,11 @@ fn first_restart(
     totals: &mut [f32],
     at: &mut [u16],
 ) -> Kept
-    requires { ⌜ Spaces dim (length (now labels)) (length (now «training_own»)) (length (now counts)) (length (now values)) (length (now own)) (length (now training)) (length (now centroids)) (length (now distances)) (length (now «trial_labels»)) (length (now places)) ⌝ }
+    requires { ⌜ (Limits dim (length (now counts)) (length (now labels)) × ((length (now counts) ≤ length (now «training_own»)) × (length (now «training_own») ≤ length (now labels)))) × ((length (now values) ∷ length (now own) ∷ length (now training) ∷ length (now centroids) ∷ length (now distances) ∷ length (now «trial_labels») ∷ length (now places) ∷ []) ≡ spacesOf dim (length (now labels)) (length (now «training_own»)) (length (now counts))) ⌝ }
     requires { ⌜ (0 < block) × ((length (now totals) ≡ length (now counts) * dim) × (length (now at) ≡ length (now counts))) ⌝ }
     requires { ⌜ (now own ≡ normsOf (rowsFrom dim (length (now labels)) (now values))) × (now «training_own» ≡ normsOf (rowsFrom dim (length (now «training_own»)) (now training))) ⌝ }
     requires { ⌜ cursor .at < length (now draws) ⌝ }
-    ensures { λ r. ⌜ Begun (now (draws .entry)) (length (now (counts .entry))) dim block (rowsFrom dim (length (now («training_own» .entry))) (now (training .entry))) (rowsFrom dim (length (now (labels .entry))) (now (values .entry))) iterations cursor r (now (labels .exit)) (rowsFrom dim (length (now (counts .entry))) (now (centroids .exit))) ⌝ }
+    ensures { λ r. ⌜ Drawn (now (draws .entry)) cursor (r .cursor) (heldOf (now (labels .exit)) (rowsFrom dim (length (now (counts .entry))) (now (centroids .exit))) r) (λ n. resultOf (rowsFrom dim (length (now (labels .entry))) (now (values .entry))) 0 ((iterate (now (draws .entry)) (length (now (counts .entry))) dim block (rowsFrom dim (length (now («training_own» .entry))) (now (training .entry))) iterations (firstFit (now (draws .entry)) (length (now (counts .entry))) (rowsFrom dim (length (now («training_own» .entry))) (now (training .entry))) n)) .centroids)) (λ n. (iterate (now (draws .entry)) (length (now (counts .entry))) dim block (rowsFrom dim (length (now («training_own» .entry))) (now (training .entry))) iterations (firstFit (now (draws .entry)) (length (now (counts .entry))) (rowsFrom dim (length (now («training_own» .entry))) (now (training .entry))) n)) .made) ⌝ }
 {
     let k = counts.len();
     let aim = training_own.len();
@@ -155,11 +162,11 @@ fn try_restart(
     at: &mut [u16],
     trial: &mut [f32],
 ) -> Kept
-    requires { ⌜ Spaces dim (length (now labels)) (length (now «training_own»)) (length (now counts)) (length (now values)) (length (now own)) (length (now training)) (length (now centroids)) (length (now distances)) (length (now «trial_labels»)) (length (now places)) ⌝ }
+    requires { ⌜ (Limits dim (length (now counts)) (length (now labels)) × ((length (now counts) ≤ length (now «training_own»)) × (length (now «training_own») ≤ length (now labels)))) × ((length (now values) ∷ length (now own) ∷ length (now training) ∷ length (now centroids) ∷ length (now distances) ∷ length (now «trial_labels») ∷ length (now places) ∷ []) ≡ spacesOf dim (length (now labels)) (length (now «training_own»)) (length (now counts))) ⌝ }
     requires { ⌜ (0 < block) × ((length (now totals) ≡ length (now counts) * dim) × ((length (now at) ≡ length (now counts)) × (length (now trial) ≡ length (now counts) * dim))) ⌝ }
     requires { ⌜ (now own ≡ normsOf (rowsFrom dim (length (now labels)) (now values))) × (now «training_own» ≡ normsOf (rowsFrom dim (length (now «training_own»)) (now training))) ⌝ }
     requires { ⌜ best .cursor .at < length (now draws) ⌝ }
-    ensures { λ r. ⌜ Tried (now (draws .entry)) (length (now (counts .entry))) dim block (rowsFrom dim (length (now («training_own» .entry))) (now (training .entry))) (rowsFrom dim (length (now (labels .entry))) (now (values .entry))) iterations number best r (now (labels .entry)) (now (labels .exit)) (rowsFrom dim (length (now (counts .entry))) (now (centroids .entry))) (rowsFrom dim (length (now (counts .entry))) (now (centroids .exit))) ⌝ }
+    ensures { λ r. ⌜ Drawn (now (draws .entry)) (best .cursor) (r .cursor) (heldOf (now (labels .exit)) (rowsFrom dim (length (now (counts .entry))) (now (centroids .exit))) r) (λ n. keepBetter (resultOf (rowsFrom dim (length (now (labels .entry))) (now (values .entry))) number ((iterate (now (draws .entry)) (length (now (counts .entry))) dim block (rowsFrom dim (length (now («training_own» .entry))) (now (training .entry))) iterations (firstFit (now (draws .entry)) (length (now (counts .entry))) (rowsFrom dim (length (now («training_own» .entry))) (now (training .entry))) n)) .centroids)) (heldOf (now (labels .entry)) (rowsFrom dim (length (now (counts .entry))) (now (centroids .entry))) best)) (λ n. (iterate (now (draws .entry)) (length (now (counts .entry))) dim block (rowsFrom dim (length (now («training_own» .entry))) (now (training .entry))) iterations (firstFit (now (draws .entry)) (length (now (counts .entry))) (rowsFrom dim (length (now («training_own» .entry))) (now (training .entry))) n)) .made) ⌝ }
 {
     let k = counts.len();
     let aim = training_own.len();
@@ -217,11 +224,11 @@ fn run_restarts(
     at: &mut [u16],
     trial: &mut [f32],
 ) -> Kept
-    requires { ⌜ Spaces dim (length (now labels)) (length (now «training_own»)) (length (now counts)) (length (now values)) (length (now own)) (length (now training)) (length (now centroids)) (length (now distances)) (length (now «trial_labels»)) (length (now places)) ⌝ }
+    requires { ⌜ (Limits dim (length (now counts)) (length (now labels)) × ((length (now counts) ≤ length (now «training_own»)) × (length (now «training_own») ≤ length (now labels)))) × ((length (now values) ∷ length (now own) ∷ length (now training) ∷ length (now centroids) ∷ length (now distances) ∷ length (now «trial_labels») ∷ length (now places) ∷ []) ≡ spacesOf dim (length (now labels)) (length (now «training_own»)) (length (now counts))) ⌝ }
     requires { ⌜ (0 < config .«decode_block_size») × ((length (now totals) ≡ length (now counts) * dim) × ((length (now at) ≡ length (now counts)) × (length (now trial) ≡ length (now counts) * dim))) ⌝ }
     requires { ⌜ (now own ≡ normsOf (rowsFrom dim (length (now labels)) (now values))) × (now «training_own» ≡ normsOf (rowsFrom dim (length (now «training_own»)) (now training))) ⌝ }
     requires { ⌜ cursor .at < length (now draws) ⌝ }
-    ensures { λ r. ⌜ Restarts (now (draws .entry)) config (length (now (counts .entry))) dim (rowsFrom dim (length (now («training_own» .entry))) (now (training .entry))) (rowsFrom dim (length (now (labels .entry))) (now (values .entry))) cursor r (now (labels .exit)) (rowsFrom dim (length (now (counts .entry))) (now (centroids .exit))) ⌝ }
+    ensures { λ r. ⌜ Drawn (now (draws .entry)) cursor (r .cursor) (heldOf (now (labels .exit)) (rowsFrom dim (length (now (counts .entry))) (now (centroids .exit))) r) (λ n. (restartsOf (now (draws .entry)) config (length (now (counts .entry))) dim (rowsFrom dim (length (now («training_own» .entry))) (now (training .entry))) (rowsFrom dim (length (now (labels .entry))) (now (values .entry))) (config .nredo - 1) n) .result) (λ n. (restartsOf (now (draws .entry)) config (length (now (counts .entry))) dim (rowsFrom dim (length (now («training_own» .entry))) (now (training .entry))) (rowsFrom dim (length (now (labels .entry))) (now (values .entry))) (config .nredo - 1) n) .made) ⌝ }
 {
     let iterations = config.niter as usize;
     let block = config.decode_block_size as usize;
@@ -290,9 +297,9 @@ pub fn run_kmeans_flat(
     trial_labels: &mut [u16],
     places: &mut [u16],
 ) -> Kept
-    requires { ⌜ Workspace config dim (length (now labels)) k (length (now values)) (length (now centroids)) (length (now training)) (length (now own)) (length (now «training_own»)) (length (now distances)) (length (now «trial_labels»)) (length (now places)) ⌝ }
+    requires { ⌜ (Limits dim k (length (now labels)) × ((k ≤ length (now labels)) × ((config .«max_points_per_centroid» ≤ 4096) × (0 < config .«decode_block_size»)))) × ((length (now values) ∷ length (now labels) ∷ length (now centroids) ∷ length (now training) ∷ length (now own) ∷ length (now «training_own») ∷ length (now distances) ∷ length (now «trial_labels») ∷ length (now places) ∷ []) ≡ (length (now labels) * dim ∷ lengthsOf (length (now labels)) dim k)) ⌝ }
     requires { ⌜ cursor .at < length (now draws) ⌝ }
-    ensures { λ r. ⌜ Ran (now (draws .entry)) config k dim (rowsFrom dim (length (now (labels .entry))) (now (values .entry))) cursor r (now (labels .exit)) (rowsFrom dim k (now (centroids .exit))) ⌝ }
+    ensures { λ r. ⌜ Drawn (now (draws .entry)) cursor (r .cursor) (heldOf (now (labels .exit)) (rowsFrom dim k (now (centroids .exit))) r) (λ n. (kmeans (now (draws .entry)) n config k dim (rowsFrom dim (length (now (labels .entry))) (now (values .entry)))) .result) (λ n. (kmeans (now (draws .entry)) n config k dim (rowsFrom dim (length (now (labels .entry))) (now (values .entry)))) .made) ⌝ }
 {
     let rows = labels.len();
     let aim = training::target(k, rows, config.max_points_per_centroid as usize);

@@ -3,8 +3,9 @@ ghost use mathlib.Core.Path.{_≡_};
 ghost use Prim.Native.Nat.{_+_, _*_, _≤_, _<_};
 ghost use lib.ListN.{length};
 ghost use Rattle.sums.specs.Rows.{rowsFrom};
-ghost use Rattle.kmeans.specs.KMeans.{timesInverse};
-ghost use Rattle.kmeans.specs.Inside.{Sources, Turned, Updated};
+ghost use Rattle.sums.specs.Draws.{Drawn};
+ghost use Rattle.kmeans.specs.KMeans.{timesInverse, updateFrom, drawsAfter};
+ghost use Rattle.kmeans.specs.Inside.{Sources, Turned};
 use crate::training;
 use labels::positions;
 use labels::positions::TrainingPosition;
@@ -88,7 +89,7 @@ pub fn update_centroids(
     requires { ⌜ (length (now centroids) ≡ length (now counts) * dim) × (length (now from) ≡ length (now counts) * dim) ⌝ }
     requires { ⌜ Sources (now training) dim rows (now pool) ⌝ }
     requires { ⌜ cursor .at < length (now draws) ⌝ }
-    ensures { λ r. ⌜ Updated (now (draws .entry)) (rowsFrom dim rows (now (training .entry))) (now (pool .entry)) (now (counts .entry)) (rowsFrom dim (length (now (counts .entry))) (now (from .entry))) cursor r (rowsFrom dim (length (now (counts .entry))) (now (centroids .exit))) ⌝ }
+    ensures { λ r. ⌜ Drawn (now (draws .entry)) cursor r (rowsFrom dim (length (now (counts .entry))) (now (centroids .exit))) (λ n. updateFrom (now (draws .entry)) (rowsFrom dim rows (now (training .entry))) n (now (pool .entry)) (now (counts .entry)) (rowsFrom dim (length (now (counts .entry))) (now (from .entry)))) (λ n. drawsAfter n (now (pool .entry)) (now (counts .entry))) ⌝ }
 {
     let mut state = Refill { used: 0, cursor };
     let mut j = 0usize;

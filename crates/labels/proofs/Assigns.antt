@@ -17,7 +17,7 @@ use Rattle.sums.proofs.Rows.{room, map-rows}
 use Rattle.labels.specs.declared.nearest.Nearest.{Nearest}
 use Rattle.labels.specs.Label.{nearest, nearests, labelsOf, distancesOf}
 use Rattle.labels.specs.Panels.{panelsOf}
-use Rattle.labels.specs.Inside.{alike, normsOf, byPanels, ByPanels, Assignable, Assigned}
+use Rattle.labels.specs.Inside.{alike, normsOf, byPanels, Assignable}
 use Rattle.labels.proofs.Searches.{by-panels}
 
 -- the first i rows are assigned, whatever finds a row's nearest
@@ -57,23 +57,24 @@ unfolding alike
 alike-end xs ys i h = rw (drop-of-length-le xs {i = i} h)
 
 module _ {found : ℕ → Nearest} {labels₀ labels : List ℕ} {distances : List Float} {same : Bool} {i : ℕ} (h : Assigning found labels₀ labels distances same i) where
-  pub assigning-step : (label : ℕ) (distance : Float) (same' : Bool) → i < length labels₀ → label ≡ found i .label → distance ≡ found i .distance
-      → same' ≡ (same && eqb (getD labels i 0) label)
-      → Assigning found labels₀ (set labels i label) (set distances i distance) same' (i + 1)
-  assigning-step label distance same' l p q s =
-      let n = length labels₀ in
+  -- row i's nearest, put to its cells
+  pub assigning-step : {labels' : List ℕ} {distances' : List Float} {same' : Bool} (n : Nearest) → i < length labels₀ → n ≡ found i
+      → labels' ≡ set labels i (n .label) → distances' ≡ set distances i (n .distance) → same' ≡ (same && eqb (getD labels i 0) (n .label))
+      → Assigning found labels₀ labels' distances' same' (i + 1)
+  assigning-step n l e labels-put distances-put s =
       let f : ℕ → ℕ = λ j. found j .label in
+      let p : n .label ≡ f i = ap (λ (x : Nearest). x .label) e in
       let ll : i < length labels = omega (arith, h .labels-sized) in
       let old = read labels labels₀ i ll l (h .rest) in
-      record {
+      rw (labels-put, distances-put) record {
         within = omega arith;
-        labels-sized = length-set labels i label ∙ h .labels-sized;
-        distances-sized = length-set distances i distance ∙ h .distances-sized;
-        labels-done = fill-more _ labels i label ll (h .labels-done) p;
-        distances-done = fill-more _ distances i distance (omega (arith, h .distances-sized)) (h .distances-done) q;
-        rest = rw (add-one i) (drop-set-lt (suc i) labels i label (omega arith) ∙ old .1);
-        so-far = rw (add-one i, s, old .0, p, ← (getD-tab f n i 0 l), and-assoc)
-            (ap (λ (b : Bool). same && b) (sym (alike-on labels₀ (tabulate f n) i l (rw (length-tab f n) l))) ∙ h .so-far);
+        labels-sized = length-set labels i (n .label) ∙ h .labels-sized;
+        distances-sized = length-set distances i (n .distance) ∙ h .distances-sized;
+        labels-done = fill-more _ labels i (n .label) ll (h .labels-done) p;
+        distances-done = fill-more _ distances i (n .distance) (omega (arith, h .distances-sized)) (h .distances-done) (ap (λ (x : Nearest). x .distance) e);
+        rest = rw (add-one i) (drop-set-lt (suc i) labels i (n .label) (omega arith) ∙ old .1);
+        so-far = rw (add-one i, s, old .0, p, ← (getD-tab f (length labels₀) i 0 l), and-assoc)
+            (ap (λ (b : Bool). same && b) (sym (alike-on labels₀ (tabulate f (length labels₀)) i l (rw (length-tab f (length labels₀)) l))) ∙ h .so-far);
       }
 
   pub assigning-labels : length labels₀ ≤ i → labels ≡ tabulate (λ j. found j .label) (length labels₀)
@@ -102,6 +103,17 @@ module _ (centroids : List Row) (dim n : ℕ) (values : List Float) where
   distances-tab = map-map (λ x. x .distance) (nearest centroids) (rowsFrom dim n values) ∙ map-rows (λ r. nearest centroids r .distance) dim n values
 
 -- ---- by panels as by centroids
+
+-- what the panels give all rows, and what the centroids give: labels, distances, and whether every label is the one that stood there before
+abbrev pub ByPanels : List Float → List Float → ℕ → List Float → List Float → List ℕ → List ℕ → List Float → Bool → Type 0
+ByPanels values own dim panels norms labels₀ labels distances same =
+    (labels ≡ tabulate (λ i. byPanels values own dim panels norms i .label) (length labels₀))
+    × ((distances ≡ tabulate (λ i. byPanels values own dim panels norms i .distance) (length labels₀)) × (same ≡ alike labels₀ labels))
+
+abbrev pub Assigned : List Row → List Row → List ℕ → List ℕ → List Float → Bool → Type 0
+Assigned centroids rows labels₀ labels distances same =
+    (labels ≡ labelsOf (nearests centroids rows)) × ((distances ≡ distancesOf (nearests centroids rows)) × (same ≡ alike labels₀ labels))
+
 module _ {dim k : ℕ} {values own centroids : List Float} {n m : ℕ} (a : Assignable dim k values own centroids n m) where
   -- row i's norm is at hand, and row i is dim long
   same-nearest : (cells : ℕ) → (k + 15) / 16 * (16 * dim) ≤ cells → (i : ℕ) → i < n
@@ -112,12 +124,11 @@ module _ {dim k : ℕ} {values own centroids : List Float} {n m : ℕ} (a : Assi
       = ap (λ (l : List Float). getD l i nan) (a .measured ∙ map-rows normOf dim n values) ∙ getD-tab (λ j. normOf (rowAt values dim j)) n i nan h in
       rw norm-is (by-panels (rowAt values dim i) centroids dim k cells (a .centroid-cells) wide (length-take-le dim (drop (i * dim) values) (rw length-drop (omega arith))))
 
-  pub by-centroids : {panels norms : List Float} {labels₀ labels : List ℕ} {distances : List Float} {same : Bool} (cells : ℕ) → (k + 15) / 16 * (16 * dim) ≤ cells
+  pub by-centroids : {panels norms : List Float} (labels₀ labels : List ℕ) (distances : List Float) (same : Bool) (cells : ℕ) → (k + 15) / 16 * (16 * dim) ≤ cells
       → length labels₀ ≡ n → panels ≡ panelsOf centroids dim k cells → norms ≡ normsOf (rowsFrom dim k centroids)
       → ByPanels values own dim panels norms labels₀ labels distances same
       → Assigned (rowsFrom dim k centroids) (rowsFrom dim n values) labels₀ labels distances same
-  by-centroids cells wide e p q b = record {
-    labels-are = b .labels-are ∙ rw (e, p, q) (tab-same _ _ n (λ i h. ap (λ (x : Nearest). x .label) (same-nearest cells wide i h)) ∙ sym (labels-tab (rowsFrom dim k centroids) dim n values));
-    distances-are = b .distances-are ∙ rw (e, p, q) (tab-same _ _ n (λ i h. ap (λ (x : Nearest). x .distance) (same-nearest cells wide i h)) ∙ sym (distances-tab (rowsFrom dim k centroids) dim n values));
-    same-is = b .same-is;
-  }
+  by-centroids labels₀ labels distances same cells wide e p q b = (
+    b .0 ∙ rw (e, p, q) (tab-same _ _ n (λ i h. ap (λ (x : Nearest). x .label) (same-nearest cells wide i h)) ∙ sym (labels-tab (rowsFrom dim k centroids) dim n values)),
+    (b .1 .0 ∙ rw (e, p, q) (tab-same _ _ n (λ i h. ap (λ (x : Nearest). x .distance) (same-nearest cells wide i h)) ∙ sym (distances-tab (rowsFrom dim k centroids) dim n values)), b .1 .1),
+  )

@@ -1,11 +1,11 @@
 -- The search for the nearest centroid: score after score, panel after panel, and by panels as by centroids. Assumes nothing.
-use Prim.Native.Nat.{ℕ, suc, _+_, _*_, _/_, _%_, _≤_, _<_}
+use Prim.Native.Nat.{ℕ, suc, _+_, _-_, _*_, _/_, _%_, _≤_, _<_}
 use mathlib.Core.Path.{_≡_, refl, sym, ap, _∙_}
 use mathlib.Core.List.{List, [], _∷_, _++_}
-use native.Mathlib.Nat.{add-zero, zero-add, add-suc, suc-add}
+use native.Mathlib.Nat.{add-zero, zero-add, add-suc, suc-add, add-sub-cancel-left}
 use native.Mathlib.Numerals.{add-one}
 use native.Mathlib.Omega.{arith}
-use lib.ListN.{length, getD}
+use lib.ListN.{length, getD, take, drop}
 use lib.Ieee.{Float, nan}
 use Rattle.sums.specs.Rows.{Row, rowsFrom, rowAt}
 use Rattle.sums.specs.Sums.{normOf, dotOf}
@@ -14,9 +14,9 @@ use Rattle.sums.proofs.Tables.{tab-add, tab-same, length-tab, getD-tab}
 use Rattle.sums.proofs.Rows.{room, map-rows}
 use Rattle.labels.specs.declared.nearest.Nearest.{Nearest}
 use Rattle.labels.specs.Label.{scoreFrom, score, better, nearestFrom, nothingYet, nearest}
-use Rattle.labels.specs.Panels.{columnOf, panelsOf}
-use Rattle.labels.specs.Inside.{panelScores, normsOf}
-use Rattle.labels.proofs.Columns.{column-centroid}
+use Rattle.labels.specs.Panels.{columnOf, panelsOf, dotsOf}
+use Rattle.labels.specs.Inside.{panelScores, normsOf, Scanned}
+use Rattle.labels.proofs.Columns.{column-centroid, dots-at}
 
 from-append : (i : ℕ) (l m : List Float) (best : Nearest) → nearestFrom i (l ++ m) best ≡ nearestFrom (i + length l) m (nearestFrom i l best)
 unfolding nearestFrom
@@ -24,7 +24,7 @@ from-append i [] m best = rw add-zero
 from-append i (s ∷ l) m best = from-append (suc i) l m (better i s best) ∙ rw (suc-add, add-suc)
 
 -- m scores more
-pub nearest-add : (f : ℕ → Float) (n m : ℕ) (best : Nearest)
+nearest-add : (f : ℕ → Float) (n m : ℕ) (best : Nearest)
     → nearestFrom 0 (tabulate f (n + m)) best ≡ nearestFrom n (tabulate (λ j. f (n + j)) m) (nearestFrom 0 (tabulate f n) best)
 nearest-add f n m best = rw tab-add (from-append 0 (tabulate f n) (tabulate (λ j. f (n + j)) m) best ∙ rw (zero-add, length-tab))
 
@@ -42,6 +42,24 @@ panelScore row own panels norms c =
 pub panel-scores : (row : Row) (own : Float) (panels norms : List Float) → panelScores row own panels norms ≡ tabulate (panelScore row own panels norms) (length norms)
 unfolding panelScores panelScore
 panel-scores row own panels norms = refl
+
+-- `n` clusters more, from `from` on, where their panel starts: their dots are the first of `dots`
+pub panel-more : (row : Row) (own : Float) (panels norms dots : List Float) (from n at wide : ℕ) (best best' : Nearest)
+    → from % 16 ≡ 0 → n ≤ 16 → wide ≡ 16 * length row → at ≡ (from + 15) / 16 * wide
+    → dots ≡ dotsOf row (take (at + wide - at) (drop at panels))
+    → best ≡ nearestFrom 0 (tabulate (panelScore row own panels norms) from) nothingYet
+    → best' ≡ Scanned best own dots norms from n
+    → best' ≡ nearestFrom 0 (tabulate (panelScore row own panels norms) (from + n)) nothingYet
+unfolding panelScore
+panel-more row own panels norms dots from n at wide best best' z small w a d b e =
+    let f = panelScore row own panels norms in
+    let same : tabulate (λ j. scoreFrom own (getD norms (from + j) nan) (getD dots j nan)) n ≡ tabulate (λ j. f (from + j)) n
+    = tab-same _ _ n (λ j l.
+    let lo : j < 16 = omega arith in
+    let q : (from + j) / 16 ≡ (from + 15) / 16 = omega (arith, z, lo) in
+    let r : (from + j) % 16 ≡ j = omega (arith, z, lo) in
+    rw (q, r, d, dots-at _ _ j lo, add-sub-cancel-left, a, w)) in
+    e ∙ rw (same, b) (sym (nearest-add f from n nothingYet))
 
 pub norms-length : (dim k : ℕ) (centroids : List Float) → length (normsOf (rowsFrom dim k centroids)) ≡ k
 norms-length dim k centroids = ap length (map-rows normOf dim k centroids) ∙ length-tab _ k

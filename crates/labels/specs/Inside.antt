@@ -11,7 +11,7 @@ use Rattle.sums.specs.Sums.{normOf, dotOf}
 use Rattle.sums.specs.Tables.{tabulate}
 use Rattle.sums.specs.Ordering.{orderFrom}
 use Rattle.sums.specs.Cells.{Below}
-use Rattle.labels.specs.Label.{scoreFrom, nearestFrom, nothingYet, nearests, labelsOf, distancesOf}
+use Rattle.labels.specs.Label.{scoreFrom, nearestFrom, nothingYet}
 use Rattle.labels.specs.declared.nearest.Nearest.{Nearest}
 use Rattle.labels.specs.Panels.{columnOf}
 use Rattle.labels.specs.Pool.{farther}
@@ -39,11 +39,6 @@ panelScores row own panels norms =
 abbrev pub byPanels : List Float → List Float → ℕ → List Float → List Float → ℕ → Nearest
 byPanels values own dim panels norms i = nearestFrom 0 (panelScores (rowAt values dim i) (getD own i nan) panels norms) nothingYet
 
-pub record ByPanels (values own : List Float) (dim : ℕ) (panels norms : List Float) (labels₀ labels : List ℕ) (distances : List Float) (same : Bool) : Type 0 where
-  pub labels-are : labels ≡ tabulate (λ i. byPanels values own dim panels norms i .label) (length labels₀)
-  pub distances-are : distances ≡ tabulate (λ i. byPanels values own dim panels norms i .distance) (length labels₀)
-  pub same-is : same ≡ alike labels₀ labels
-
 -- how long the slices of `assign_rows` are, with the rows' norms worked out
 pub record Assignable (dim k : ℕ) (values norms centroids : List Float) (labels distances : ℕ) : Type 0 where
   pub some : 0 < dim
@@ -53,12 +48,6 @@ pub record Assignable (dim k : ℕ) (values norms centroids : List Float) (label
   pub centroid-cells : length centroids ≡ k * dim
   pub distance-cells : distances ≡ labels
   pub measured : norms ≡ normsOf (rowsFrom dim labels values)
-
--- labels and distances of all rows, and whether every label is the one that stood there before
-pub record Assigned (centroids rows : List Row) (labels₀ labels : List ℕ) (distances : List Float) (same : Bool) : Type 0 where
-  pub labels-are : labels ≡ labelsOf (nearests centroids rows)
-  pub distances-are : distances ≡ distancesOf (nearests centroids rows)
-  pub same-is : same ≡ alike labels₀ labels
 
 -- a pool of at most cap positions in front of `at`, `count` of them so far, with their distances
 pub record Holds (distances : List Float) (at : List ℕ) (count cap : ℕ) : Type 0 where

@@ -27,6 +27,31 @@ pub fn dots16(row: &[f32], panel: &[f32]) -> [f32; 16]
     acc
 }
 
+// The dots of two rows with the columns of one panel.
+pub struct DotsPair {
+    pub first: [f32; 16],
+    pub second: [f32; 16],
+}
+
+// The panel is read once for both rows.
+pub fn dots16_pair(first: &[f32], second: &[f32], panel: &[f32]) -> DotsPair
+    requires { ⌜ (length (now second) ≡ length (now first)) × (16 * length (now first) ≤ length (now panel)) ⌝ }
+    ensures { λ r. ⌜ (r .first ≡ dotsOf (now (first .entry)) (now (panel .entry))) × (r .second ≡ dotsOf (now (second .entry)) (now (panel .entry))) ⌝ }
+{
+    let mut a = [0.0f32; 16];
+    let mut b = [0.0f32; 16];
+    let mut i = 0usize;
+    while i < first.len() {
+        lane16(&mut a, first[i], panel, 16 * i);
+        lane16(&mut b, second[i], panel, 16 * i);
+        i += 1;
+    }
+    DotsPair {
+        first: a,
+        second: b,
+    }
+}
+
 // Value d of centroid c, or +0.0 past the last centroid.
 fn value_at(centroids: &[f32], dim: usize, k: usize, c: usize, d: usize) -> f32
     requires { ⌜ (length (now centroids) ≡ k * dim) × (d < dim) ⌝ }

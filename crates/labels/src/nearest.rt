@@ -3,18 +3,25 @@ ghost use mathlib.Core.Path.{_≡_};
 ghost use mathlib.Core.Bool.{_&&_};
 ghost use Prim.Native.Nat.{_+_, _-_, _*_, _/_, _≤_, _<_};
 ghost use lib.Dec.{eqb};
-ghost use lib.ListN.{length};
+ghost use lib.ListN.{length, getD, set};
 ghost use lib.Ieee.{nan};
 ghost use Rattle.sums.specs.Rows.{rowsFrom};
+ghost use Rattle.sums.specs.Tables.{tabulate};
 ghost use Rattle.sums.specs.Sums.{infinity as Sums·infinity, normOf};
-ghost use Rattle.labels.specs.Label.{scoreFrom, nearestFrom, nothingYet};
-ghost use Rattle.labels.specs.Inside.{normsOf, panelScores, Assignable, Assigned, Scanned, ByPanels};
+ghost use Rattle.labels.specs.Label.{scoreFrom, better as Label·better, nearestFrom, nothingYet, nearests, labelsOf, distancesOf};
+ghost use Rattle.labels.specs.Inside.{normsOf, alike, panelScores, byPanels, Assignable, Scanned};
 use crate::lanes;
 
 // A cluster, and the score of a row against it.
 pub struct Nearest {
     pub label: u16,
     pub distance: f32,
+}
+
+// What is found for two rows.
+struct NearestPair {
+    first: Nearest,
+    second: Nearest,
 }
 
 fn score(own: f32, other: f32, dot: f32) -> f32
@@ -92,6 +99,86 @@ fn find_nearest(row: &[f32], own: f32, panels: &[f32], norms: &[f32]) -> Nearest
     best
 }
 
+// best, or the cluster where its score is below.
+fn better(best: Nearest, cluster: u16, s: f32) -> Nearest
+    ensures { λ r. ⌜ r ≡ Label·better cluster s best ⌝ }
+{
+    if s < best.distance {
+        return Nearest {
+            label: cluster,
+            distance: s,
+        };
+    }
+    best
+}
+
+// Two rows' searches side by side, neither waiting for the other.
+fn scan16_pair(
+    best: NearestPair,
+    own: f32,
+    other: f32,
+    dots: lanes::DotsPair,
+    norms: &[f32],
+    from: usize,
+    count: usize,
+) -> NearestPair
+    requires { ⌜ (count ≤ 16) × ((from + count ≤ length (now norms)) × (length (now norms) ≤ 65536)) ⌝ }
+    ensures { λ r. ⌜ (r .first ≡ Scanned (best .first) own (dots .first) (now (norms .entry)) from count) × (r .second ≡ Scanned (best .second) other (dots .second) (now (norms .entry)) from count) ⌝ }
+{
+    let first = dots.first;
+    let second = dots.second;
+    let mut a = best.first;
+    let mut b = best.second;
+    let mut j = 0usize;
+    while j < count {
+        let c = from + j;
+        a = better(a, c as u16, score(own, norms[c], first[j]));
+        b = better(b, c as u16, score(other, norms[c], second[j]));
+        j += 1;
+    }
+    NearestPair {
+        first: a,
+        second: b,
+    }
+}
+
+// The nearest of each of two rows, a panel being read once for both; `own` and `other` are their norms.
+fn find_nearest_pair(
+    row: &[f32],
+    second: &[f32],
+    own: f32,
+    other: f32,
+    panels: &[f32],
+    norms: &[f32],
+) -> NearestPair
+    requires { ⌜ (length (now second) ≡ length (now row)) × ((length (now row) ≤ 64) × (length (now norms) ≤ 64)) ⌝ }
+    requires { ⌜ (length (now norms) + 15) / 16 * (16 * length (now row)) ≤ length (now panels) ⌝ }
+    ensures { λ r. ⌜ r .first ≡ nearestFrom 0 (panelScores (now (row .entry)) own (now (panels .entry)) (now (norms .entry))) nothingYet ⌝ }
+    ensures { λ r. ⌜ r .second ≡ nearestFrom 0 (panelScores (now (second .entry)) other (now (panels .entry)) (now (norms .entry))) nothingYet ⌝ }
+{
+    let k = norms.len();
+    let wide = 16 * row.len();
+    let start = Nearest {
+        label: 0,
+        distance: infinity(),
+    };
+    let mut best = NearestPair {
+        first: start,
+        second: start,
+    };
+    let mut from = 0usize;
+    let mut at = 0usize;
+    while from < k {
+        let count = least(k - from, 16);
+        let end = at + wide;
+        let dots = lanes::dots16_pair(row, second, &panels[at..end]);
+        best = scan16_pair(best, own, other, dots, norms, from, count);
+        from += count;
+        at = end;
+    }
+    best
+}
+
 // The norms of rows of dim values, one after the other.
 pub fn compute_norms(values: &[f32], dim: usize, norms: &mut [f32])
     requires { ⌜ length (now values) ≡ length (now norms) * dim ⌝ }
@@ -115,6 +202,18 @@ fn still(same: bool, old: u16, new: u16) -> bool
     false
 }
 
+// What is found for row i, put to its cells; true exactly where `same` is and the label is the one that stood there.
+fn put(labels: &mut [u16], distances: &mut [f32], i: usize, found: Nearest, same: bool) -> bool
+    requires { ⌜ (i < length (now labels)) × (i < length (now distances)) ⌝ }
+    ensures { λ _. ⌜ (now (labels .exit) ≡ set (now (labels .entry)) i (found .label)) × (now (distances .exit) ≡ set (now (distances .entry)) i (found .distance)) ⌝ }
+    ensures { λ r. ⌜ r ≡ (same && eqb (getD (now (labels .entry)) i 0) (found .label)) ⌝ }
+{
+    let stands = still(same, labels[i], found.label);
+    labels[i] = found.label;
+    distances[i] = found.distance;
+    stands
+}
+
 // Labels and distances of the rows, the centroids being laid out in panels.
 fn assign_by_panels(
     values: &[f32],
@@ -127,18 +226,29 @@ fn assign_by_panels(
 ) -> bool
     requires { ⌜ (length (now values) ≡ length (now labels) * dim) × ((length (now distances) ≡ length (now labels)) × (length (now own) ≡ length (now labels))) ⌝ }
     requires { ⌜ (dim ≤ 64) × ((length (now norms) ≤ 64) × ((length (now norms) + 15) / 16 * (16 * dim) ≤ length (now panels))) ⌝ }
-    ensures { λ r. ⌜ ByPanels (now (values .entry)) (now (own .entry)) dim (now (panels .entry)) (now (norms .entry)) (now (labels .entry)) (now (labels .exit)) (now (distances .exit)) r ⌝ }
+    ensures { λ _. ⌜ now (labels .exit) ≡ tabulate (λ i. byPanels (now (values .entry)) (now (own .entry)) dim (now (panels .entry)) (now (norms .entry)) i .label) (length (now (labels .entry))) ⌝ }
+    ensures { λ _. ⌜ now (distances .exit) ≡ tabulate (λ i. byPanels (now (values .entry)) (now (own .entry)) dim (now (panels .entry)) (now (norms .entry)) i .distance) (length (now (labels .entry))) ⌝ }
+    ensures { λ r. ⌜ r ≡ alike (now (labels .entry)) (now (labels .exit)) ⌝ }
 {
     let mut same = true;
     let mut i = 0usize;
-    while i < labels.len() {
+    while i + 1 < labels.len() {
+        let at = i * dim;
+        let j = i + 1;
+        let mid = at + dim;
+        let end = mid + dim;
+        let row = &values[at..mid];
+        let second = &values[mid..end];
+        let found = find_nearest_pair(row, second, own[i], own[j], panels, norms);
+        same = put(labels, distances, i, found.first, same);
+        same = put(labels, distances, j, found.second, same);
+        i = j + 1;
+    }
+    if i < labels.len() {
         let at = i * dim;
         let end = at + dim;
         let found = find_nearest(&values[at..end], own[i], panels, norms);
-        same = still(same, labels[i], found.label);
-        labels[i] = found.label;
-        distances[i] = found.distance;
-        i += 1;
+        return put(labels, distances, i, found, same);
     }
     same
 }
@@ -154,7 +264,9 @@ pub fn assign_rows(
     distances: &mut [f32],
 ) -> bool
     requires { ⌜ Assignable dim k (now values) (now own) (now centroids) (length (now labels)) (length (now distances)) ⌝ }
-    ensures { λ r. ⌜ Assigned (rowsFrom dim k (now (centroids .entry))) (rowsFrom dim (length (now (labels .entry))) (now (values .entry))) (now (labels .entry)) (now (labels .exit)) (now (distances .exit)) r ⌝ }
+    ensures { λ _. ⌜ now (labels .exit) ≡ labelsOf (nearests (rowsFrom dim k (now (centroids .entry))) (rowsFrom dim (length (now (labels .entry))) (now (values .entry)))) ⌝ }
+    ensures { λ _. ⌜ now (distances .exit) ≡ distancesOf (nearests (rowsFrom dim k (now (centroids .entry))) (rowsFrom dim (length (now (labels .entry))) (now (values .entry)))) ⌝ }
+    ensures { λ r. ⌜ r ≡ alike (now (labels .entry)) (now (labels .exit)) ⌝ }
 {
     let mut room = [0.0f32; 4096];
     let mut lengths = [0.0f32; 64];

@@ -17,7 +17,7 @@ use Rattle.sums.proofs.Tables.{length-tab}
 use Rattle.sums.proofs.Weighs.{one, countOf, Same}
 use Rattle.parts.specs.Parts.{having, gathered, sizesOf, flat}
 use Rattle.parts.specs.Balance.{share, allowance, allowed, seek, closestFrom, closestOf, toward, balanced, moves, balance}
-use Rattle.parts.specs.Inside.{Balanced}
+use Rattle.parts.proofs.Rounds.{Balanced}
 use Rattle.parts.proofs.Gathers.{gathered-weigh}
 use Rattle.parts.proofs.Nearest.{toward-in}
 use Rattle.parts.proofs.Allowances.{share-allowed}
@@ -65,12 +65,12 @@ balance-promise rows centroids share weight parts few above =
     balanced-promise (toward rows centroids) (toward-in rows centroids) share (allowed share weight) (allowed-least share weight few above) parts
 
 -- So does the code: `n` is what `balance_clusters` gives back, and the parts are those that it leaves in its slices.
-pub clusters-promise : {rows centroids : List Row} {weight : Float} {parts : List (List ℕ)} {part sizes : List ℕ} {n : ℕ}
+pub clusters-promise : (rows centroids : List Row) (weight : Float) (parts : List (List ℕ)) {part sizes : List ℕ} {n : ℕ}
     → length (flat parts) ≤ 4096 → lt zero32 weight ≡ true → Balanced rows centroids weight parts part sizes n
     → Promise (share (length (flat parts)) (length parts)) (allowed (share (length (flat parts)) (length parts)) weight) parts
     (balance rows centroids (share (length (flat parts)) (length parts)) weight parts) n
-clusters-promise {rows} {centroids} {weight} {parts} few above b =
-    rw (b .count)
+clusters-promise rows centroids weight parts few above b =
+    rw (b .1 .1)
     (balance-promise rows centroids (share (length (flat parts)) (length parts)) weight parts (omega (arith, div-le-self (length (flat parts)) (length parts))) above)
 
 -- Rows gathered by labels that are all below k: no row is lost, doubled or made up.

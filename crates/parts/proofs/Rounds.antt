@@ -16,8 +16,8 @@ use Rattle.sums.specs.Sums.{zero32, count32}
 use Rattle.sums.specs.Cells.{Below}
 use Rattle.sums.proofs.Rows.{room, part-row}
 use Rattle.parts.specs.Parts.{sizesOf, flat}
-use Rattle.parts.specs.Balance.{share, allowance, allowed, seek, moved, giver, taker, round, balanced, moves, closestOf, toward}
-use Rattle.parts.specs.Inside.{total, Given, Balanced}
+use Rattle.parts.specs.Balance.{balance, share, allowance, allowed, seek, moved, giver, taker, round, balanced, moves, closestOf, toward}
+use Rattle.parts.specs.Inside.{total}
 use Rattle.parts.proofs.Lists.{cond-same, weigh-set, below-same}
 use Rattle.parts.proofs.Layouts.{sizes-length, sizes-at, total-weigh, start-le, part-at, cut, cut-flat, cut-sizes}
 use Rattle.parts.proofs.Allowances.{plain, share-allowed, over-test}
@@ -60,11 +60,11 @@ module _
     (laid : (ps : List (List ℕ)) → part ≡ flat ps → sizes ≡ sizesOf ps → part′ ≡ flat (moved g r j ps)) where
   pub given-row : from ≡ total (drop (g + 1) sizes) → end ≡ from + getD sizes g 0
       → j ≡ closestOf (rowsFrom dim rows values) (take (r * dim + dim - r * dim) (drop (r * dim) centroids)) (take (end - from) (drop from part))
-      → (ps : List (List ℕ)) → part ≡ flat ps → sizes ≡ sizesOf ps → Given (rowsFrom dim rows values) (rowsFrom dim (length sizes) centroids) g r ps part′ sizes′
+      → (ps : List (List ℕ)) → part ≡ flat ps → sizes ≡ sizesOf ps → (let after : List (List ℕ) = moved g r (toward (rowsFrom dim rows values) (rowsFrom dim (length sizes) centroids) r (getD ps g [])) ps in (part′ ≡ flat after) × (sizes′ ≡ sizesOf after))
   given-row f e found ps pe se =
       let t : j ≡ toward (rowsFrom dim rows values) (rowsFrom dim (length sizes) centroids) r (getD ps g [])
       = found ∙ rw (part-row dim (length sizes) centroids r hr, part-at part sizes ps pe se g from end hg f e) in
-      record { laid = rw (← t) (laid ps pe se); sized = rw (← t) (moved-sized sizes g r hg hr ne part ps pe se j hj sizes′ sized) }
+      (rw (← t) (laid ps pe se), rw (← t) (moved-sized sizes g r hg hr ne part ps pe se j hj sizes′ sized))
 
   pub given-below : total sizes ≡ length part → Below rows part → Below rows part′
   given-below t b =
@@ -214,6 +214,13 @@ pub record Balancing (rows centroids : List Row) (weight : Float) (m : ℕ) (par
   pub so-far : (ps : List (List ℕ)) → part₀ ≡ flat ps → sizes₀ ≡ sizesOf ps
       → Reached (toward rows centroids) (length part₀ / length sizes₀) (allowed (length part₀ / length sizes₀) weight) ps part sizes n
 
-pub balanced-done : {rows centroids : List Row} {weight : Float} {sh : ℕ} {ps : List (List ℕ)} {part sizes : List ℕ} {n : ℕ}
+-- the parts balanced, and how many rows moved
+abbrev pub Balanced : List Row → List Row → Float → List (List ℕ) → List ℕ → List ℕ → ℕ → Type 0
+Balanced rows centroids weight ps part sizes n =
+    let sh : ℕ = share (length (flat ps)) (length ps) in
+    let after : List (List ℕ) = balance rows centroids sh weight ps in
+    (part ≡ flat after) × ((sizes ≡ sizesOf after) × (n ≡ moves (toward rows centroids) sh (allowed sh weight) 10 ps))
+
+pub balanced-done : (rows centroids : List Row) (weight : Float) (ps : List (List ℕ)) {sh : ℕ} {part sizes : List ℕ} {n : ℕ}
     → sh ≡ share (length (flat ps)) (length ps) → Done (toward rows centroids) sh (allowed sh weight) ps part sizes n → Balanced rows centroids weight ps part sizes n
-balanced-done e d = record { laid = rw (← e) (d .part-is); sized = rw (← e) (d .sizes-is); count = rw (← e) (d .count) }
+balanced-done rows centroids weight ps e d = (rw (← e) (d .part-is), (rw (← e) (d .sizes-is), rw (← e) (d .count)))

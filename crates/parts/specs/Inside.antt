@@ -1,14 +1,9 @@
 -- What the functions inside say of their slices.
-use mathlib.Core.Path.{_≡_}
 use mathlib.Core.Bool.{cond}
 use mathlib.Core.List.{List, [], _∷_, _++_}
 use Prim.Native.Nat.{ℕ, _+_, _-_}
 use lib.Dec.{ltb}
-use lib.ListN.{length, getD, take, drop}
-use lib.Ieee.{Float}
-use Rattle.sums.specs.Rows.{Row}
-use Rattle.parts.specs.Parts.{sizesOf, flat}
-use Rattle.parts.specs.Balance.{share, allowed, moved, balance, moves, toward}
+use lib.ListN.{length, take, drop}
 
 -- a list turned by one place, either way
 abbrev pub rotl : List ℕ → List ℕ
@@ -29,14 +24,3 @@ carried from end l = cond (ltb from end) (stretch from end rotl l) (stretch end 
 unfoldable pub total : List ℕ → ℕ
 total [] = 0
 total (n ∷ ns) = n + total ns
-
--- the row of part g closest to part r's centroid has gone over
-pub record Given (rows centroids : List Row) (g r : ℕ) (ps : List (List ℕ)) (part sizes : List ℕ) : Type 0 where
-  pub laid : part ≡ flat (moved g r (toward rows centroids r (getD ps g [])) ps)
-  pub sized : sizes ≡ sizesOf (moved g r (toward rows centroids r (getD ps g [])) ps)
-
--- the parts balanced, and how many rows moved
-pub record Balanced (rows centroids : List Row) (weight : Float) (ps : List (List ℕ)) (part sizes : List ℕ) (n : ℕ) : Type 0 where
-  pub laid : part ≡ flat (balance rows centroids (share (length (flat ps)) (length ps)) weight ps)
-  pub sized : sizes ≡ sizesOf (balance rows centroids (share (length (flat ps)) (length ps)) weight ps)
-  pub count : n ≡ moves (toward rows centroids) (share (length (flat ps)) (length ps)) (allowed (share (length (flat ps)) (length ps)) weight) 10 ps

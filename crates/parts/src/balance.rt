@@ -1,7 +1,7 @@
 // Balancing of parts (the source's balance_clusters). Parts stand one after the other, the last first.
 ghost use mathlib.Core.Path.{_≡_};
 ghost use mathlib.Core.Bool.{true};
-ghost use mathlib.Core.List.{List};
+ghost use mathlib.Core.List.{List, []};
 ghost use Prim.Native.Nat.{ℕ, _+_, _-_, _*_, _<_, _≤_};
 ghost use lib.ListN.{length, getD, drop, set};
 ghost use lib.Ieee.{lt};
@@ -9,8 +9,8 @@ ghost use Rattle.sums.specs.Rows.{rowsFrom};
 ghost use Rattle.sums.specs.Sums.{zero32};
 ghost use Rattle.sums.specs.Cells.{Below};
 ghost use Rattle.parts.specs.Parts.{sizesOf, flat};
-ghost use Rattle.parts.specs.Balance.{closestOf, moved};
-ghost use Rattle.parts.specs.Inside.{total, rotl, rotr, carried, Given, Balanced};
+ghost use Rattle.parts.specs.Balance.{share as Balance·share, allowed, closestOf, moved, balance, moves, toward};
+ghost use Rattle.parts.specs.Inside.{total, rotl, rotr, carried};
 use sums::cells;
 use sums::math;
 
@@ -124,7 +124,7 @@ fn give_row(
 )
     requires { ⌜ (length (now values) ≡ rows * dim) × (length (now centroids) ≡ length (now sizes) * dim) × Below rows (now part) ⌝ }
     requires { ⌜ (g < length (now sizes)) × (r < length (now sizes)) × (r ≡ g → ⊥) × (0 < getD (now sizes) g 0) × (total (now sizes) ≡ length (now part)) × (length (now part) < 65536) ⌝ }
-    ensures given { λ _. ⌜ ((ps : List (List ℕ)) → now (part .entry) ≡ flat ps → now (sizes .entry) ≡ sizesOf ps → Given (rowsFrom dim rows (now (values .entry))) (rowsFrom dim (length (now (sizes .entry))) (now (centroids .entry))) g r ps (now (part .exit)) (now (sizes .exit))) ⌝ }
+    ensures given { λ _. ⌜ ((ps : List (List ℕ)) → now (part .entry) ≡ flat ps → now (sizes .entry) ≡ sizesOf ps → (now (part .exit) ≡ flat (moved g r (toward (rowsFrom dim rows (now (values .entry))) (rowsFrom dim (length (now (sizes .entry))) (now (centroids .entry))) r (getD ps g [])) ps)) × (now (sizes .exit) ≡ sizesOf (moved g r (toward (rowsFrom dim rows (now (values .entry))) (rowsFrom dim (length (now (sizes .entry))) (now (centroids .entry))) r (getD ps g [])) ps))) ⌝ }
     ensures sized { λ _. ⌜ now (sizes .exit) ≡ set (set (now (sizes .entry)) g (getD (now (sizes .entry)) g 0 - 1)) r (getD (now (sizes .entry)) r 0 + 1) ⌝ }
     ensures rows { λ _. ⌜ Below rows (now (part .exit)) ⌝ }
 {
@@ -155,7 +155,7 @@ pub fn balance_clusters(
     requires { ⌜ (length (now values) ≡ rows * dim) × (length (now centroids) ≡ length (now sizes) * dim) × Below rows (now part) ⌝ }
     requires { ⌜ (0 < length (now sizes)) × (length (now sizes) ≤ length (now part)) × (total (now sizes) ≡ length (now part)) × (length (now part) ≤ 4096) ⌝ }
     requires { ⌜ lt zero32 weight ≡ true ⌝ }
-    ensures { λ n. ⌜ ((ps : List (List ℕ)) → now (part .entry) ≡ flat ps → now (sizes .entry) ≡ sizesOf ps → Balanced (rowsFrom dim rows (now (values .entry))) (rowsFrom dim (length (now (sizes .entry))) (now (centroids .entry))) weight ps (now (part .exit)) (now (sizes .exit)) n) ⌝ }
+    ensures { λ n. ⌜ ((ps : List (List ℕ)) → now (part .entry) ≡ flat ps → now (sizes .entry) ≡ sizesOf ps → (now (part .exit) ≡ flat (balance (rowsFrom dim rows (now (values .entry))) (rowsFrom dim (length (now (sizes .entry))) (now (centroids .entry))) (Balance·share (length (flat ps)) (length ps)) weight ps)) × ((now (sizes .exit) ≡ sizesOf (balance (rowsFrom dim rows (now (values .entry))) (rowsFrom dim (length (now (sizes .entry))) (now (centroids .entry))) (Balance·share (length (flat ps)) (length ps)) weight ps)) × (n ≡ moves (toward (rowsFrom dim rows (now (values .entry))) (rowsFrom dim (length (now (sizes .entry))) (now (centroids .entry)))) (Balance·share (length (flat ps)) (length ps)) (allowed (Balance·share (length (flat ps)) (length ps)) weight) 10 ps))) ⌝ }
 {
     let share = part.len() / sizes.len();
     let allowance = (share as f32) * (1.0f32 + weight);

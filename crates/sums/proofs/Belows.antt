@@ -61,14 +61,6 @@ module _ (before : ℕ → ℕ → Bool) where
   below-order m held [] h b = h
   below-order m held (x ∷ l) h b = below-order m (place before x held) l (below-place m x held (below-head m x l b) h) (below-tail m x l b)
 
--- a number past the end reads as 0
-pub below-any : (m : ℕ) (l : List ℕ) → 0 < m → Below m l → (i : ℕ) → getD l i 0 < m
-below-any m l h b i = go (ltb i (length l)) refl
-  where
-    go : (t : Bool) → ltb i (length l) ≡ t → getD l i 0 < m
-    go true e = b i (ltb-true i (length l) e)
-    go false e = rw (List·getD-eq-default l 0 {n = i} (omega (arith, ltb-false i (length l) e))) h
-
 pub below-drop : (m n : ℕ) (l : List ℕ) → Below m l → Below m (drop n l)
 below-drop m n l b i h = rw (getD-drop n l i 0) (b (n + i) (omega (arith, length-drop n l)))
 

@@ -72,17 +72,6 @@ module _ {A : Type 0} where
       let k : length l ≡ n = ap length e ∙ h in
       record { fits = omega (arith, length-append l rest); is = take-at l rest n k ∙ e; long = ap length (take-at l rest n k) ∙ k }
 
-module _ {A B : Type 0} (f : A → B) where
-  pub take-map : (n : ℕ) (l : List A) → take n (map f l) ≡ map f (take n l)
-  take-map zero l = refl
-  take-map (suc n) [] = refl
-  take-map (suc n) (x ∷ l) = ap (λ (r : List B). f x ∷ r) (take-map n l)
-
-  pub drop-map : (n : ℕ) (l : List A) → drop n (map f l) ≡ map f (drop n l)
-  drop-map zero l = refl
-  drop-map (suc n) [] = refl
-  drop-map (suc n) (x ∷ l) = drop-map n l
-
 module _ {A : Type 0} where
   -- a front part that comes back as long as it was lent leaves the list as long as it was
   pub front-back : (n : ℕ) (l xs : List A) → n ≤ length l → length xs ≡ length (take n l) → length (xs ++ drop n l) ≡ length l

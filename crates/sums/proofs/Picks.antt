@@ -15,8 +15,7 @@ use Rattle.sums.specs.declared.draws.Draw.{Draw}
 use Rattle.sums.proofs.Tables.{getD-tab, up-length}
 use Rattle.sums.specs.Tables.{upTo}
 use Rattle.sums.specs.Cells.{Below}
-use Rattle.sums.specs.Draws.{drawn, exchange, exchangesFrom, pick, cursorAt, Stepped, Picked}
-use Rattle.sums.proofs.Belows.{below-any, below-take}
+use Rattle.sums.specs.Draws.{drawn, exchange, exchangesFrom, pick, cursorAt, Drawn}
 
 again : (n l : ℕ) → suc n % l ≡ suc (n % l) % l
 again n l =
@@ -64,22 +63,18 @@ picking-begin draws c₀ count l places e h =
     rw (e, n) (picking-start draws c₀ count l h)
 
 module _ {draws : List ℕ} {c₀ : Cursor} {count m : ℕ} {places : List ℕ} {cursor : Cursor} {i : ℕ} (h : Picking draws c₀ count m places cursor i) where
-  pub picking-end : count ≤ i → Picked draws c₀ count m cursor places
+  pub picking-end : count ≤ i → Below m places × Drawn draws c₀ cursor places (λ n. exchangesFrom draws m n 0 count (upTo m)) (λ n. n + count)
   unfolding exchangesFrom
   picking-end l =
       let e : i ≡ count = omega (arith, h .within) in
       let z : count - count ≡ 0 = omega arith in
-      record {
-        inside = h .inside;
-        below = h .below;
-        steps = λ n p. (rw (e, z) at (h .steps n p .0), rw e at (h .steps n p .1));
-      }
+      (h .below, record { inside = h .inside; steps = λ n p. (rw (e, z) at (h .steps n p .0), rw e at (h .steps n p .1)) })
 
   module _ (l : i < count) (fits : count ≤ m) (j x : ℕ) (e : j ≡ i + x % (m - i)) where
     pub picking-room : j < m
     picking-room = omega (arith, mod-lt x {m = m - i} (omega arith))
 
-    pub picking-step : (d : Draw) → x ≡ d .number → Stepped draws cursor d → Picking draws c₀ count m (exchange i j places) (d .next) (i + 1)
+    pub picking-step : (d : Draw) → x ≡ d .number → Drawn draws cursor (d .next) (d .number) (λ n. drawn draws n) (λ n. suc n) → Picking draws c₀ count m (exchange i j places) (d .next) (i + 1)
     unfolding exchange exchangesFrom
     picking-step d f s = record {
       within = omega arith;
@@ -93,26 +88,13 @@ module _ {draws : List ℕ} {c₀ : Cursor} {count m : ℕ} {places : List ℕ} 
           (rw (add-one i, add-suc n i, g) (rw z at (h .steps n p .0)), rw (add-one i, add-suc n i) (w .1));
     }
 
--- ---- picks: as many as asked for, each below m
+-- ---- picks: as many as asked for
 module _ (draws : List ℕ) (m : ℕ) where
   exchanges-length : (n i c : ℕ) (places : List ℕ) → length (exchangesFrom draws m n i c places) ≡ length places
   unfolding exchange exchangesFrom
   exchanges-length n i zero places = refl
   exchanges-length n i (suc c) places = exchanges-length (suc n) (suc i) c (exchange i (i + drawn draws n % (m - i)) places) ∙ simp length-set
 
-  exchanges-below : (n i c : ℕ) (places : List ℕ) → i + c ≤ m → Below m places → Below m (exchangesFrom draws m n i c places)
-  unfolding exchange exchangesFrom
-  exchanges-below n i zero places h b = b
-  exchanges-below n i (suc c) places h b =
-      let some : 0 < m = omega arith in
-      let j = i + drawn draws n % (m - i) in
-      exchanges-below (suc n) (suc i) c (exchange i j places) (omega arith)
-      (below-set m (set places i (getD places j 0)) j (getD places i 0) (below-set m places i (getD places j 0) b (below-any m places some b j)) (below-any m places some b i))
-
   pub pick-length : (n c : ℕ) → c ≤ m → length (pick draws n c m) ≡ c
   unfolding pick
   pick-length n c h = length-take-le c (exchangesFrom draws m n 0 c (upTo m)) (omega (arith, exchanges-length n 0 c (upTo m), up-length m))
-
-  pub pick-below : (n c : ℕ) → c ≤ m → Below m (pick draws n c m)
-  unfolding pick
-  pick-below n c h = below-take m c (exchangesFrom draws m n 0 c (upTo m)) (exchanges-below n 0 c (upTo m) (omega arith) (below-up m))

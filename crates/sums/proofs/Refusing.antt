@@ -8,7 +8,7 @@ use native.Mathlib.Omega.{arith}
 use borrow.Author.Tests.{leb-true, eqb-true}
 use lib.Dec.{leb}
 use lib.ListN.{length, getD, set, replicate, getD-replicate}
-use Rattle.sums.specs.Refusals.{within, sameAll, lowestIf, lowestFrom, padded}
+use Rattle.sums.specs.Refusals.{within, sameAll, lowestFrom, padded}
 
 pub both : (a b : Bool) → (a && b) ≡ true → (a ≡ true) × (b ≡ true)
 both true b e = (refl, e)
@@ -29,18 +29,25 @@ same-cons m n ms ns e =
     let h = both _ _ e in
     (eqb-true m n (h .0), h .1)
 
+pub same-is : (ms ns : List ℕ) → sameAll ms ns ≡ true → ms ≡ ns
+unfolding sameAll
+same-is [] [] e = refl
+same-is [] (n ∷ ns) e = absurd (false≢true e)
+same-is (m ∷ ms) [] e = absurd (false≢true e)
+same-is (m ∷ ms) (n ∷ ns) e = let h = same-cons m n ms ns e in rw (h .0, same-is ms ns (h .1))
+
 abbrev pub AllTrue : List Bool → Type 0
 AllTrue [] = Unit {0}
 AllTrue (b ∷ l) = (b ≡ true) × AllTrue l
 
 pub passed : (i : ℕ) (l : List Bool) → lowestFrom (suc i) l ≡ 0 → AllTrue l
-unfolding lowestFrom lowestIf
+unfolding lowestFrom
 passed i [] e = tt
 passed i (true ∷ l) e = (refl, passed (suc i) l e)
 passed i (false ∷ l) e = absurd (suc-ne-zero i e)
 
 pub lowest-none : (i : ℕ) (l : List Bool) → AllTrue l → lowestFrom i l ≡ 0
-unfolding lowestFrom lowestIf
+unfolding lowestFrom
 lowest-none i [] h = refl
 lowest-none i (b ∷ l) h = rw (h .0) (lowest-none (suc i) l (h .1))
 
@@ -52,25 +59,25 @@ FirstFails (suc j) (b ∷ l) = (b ≡ true) × FirstFails j l
 
 -- its number is given, and no other's
 pub lowest-when : (i j : ℕ) (l : List Bool) → FirstFails j l → lowestFrom i l ≡ i + j
-unfolding lowestFrom lowestIf
+unfolding lowestFrom
 lowest-when i j [] h = absurd h
 lowest-when i zero (b ∷ l) h = rw h (omega arith)
 lowest-when i (suc j) (b ∷ l) h = rw (h .0) (lowest-when (suc i) j l (h .1) ∙ omega arith)
 
 lowest-least : (i : ℕ) (l : List Bool) → 0 < lowestFrom i l → i ≤ lowestFrom i l
-unfolding lowestFrom lowestIf
+unfolding lowestFrom
 lowest-least i [] h = absurd (omega arith)
 lowest-least i (true ∷ l) h = omega (arith, lowest-least (suc i) l h)
 lowest-least i (false ∷ l) h = omega arith
 
 pub lowest-most : (i : ℕ) (l : List Bool) → lowestFrom (suc i) l ≤ i + length l
-unfolding lowestFrom lowestIf
+unfolding lowestFrom
 lowest-most i [] = omega arith
 lowest-most i (true ∷ l) = omega (arith, lowest-most (suc i) l)
 lowest-most i (false ∷ l) = omega arith
 
 pub lowest-only : (i j : ℕ) (l : List Bool) → lowestFrom (suc i) l ≡ suc i + j → FirstFails j l
-unfolding lowestFrom lowestIf
+unfolding lowestFrom
 lowest-only i j [] e = absurd (omega (arith, e))
 lowest-only i zero (true ∷ l) e = absurd (omega (arith, e, lowest-least (suc (suc i)) l (omega (arith, e))))
 lowest-only i zero (false ∷ l) e = refl

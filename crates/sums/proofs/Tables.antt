@@ -28,9 +28,6 @@ module _ {A : Type 0} where
   tab-same f g (suc n) h = rw (tab-same f g n (λ i l. h i (omega arith)), h n (omega arith))
 
   -- a turn of a loop that fills l from the front, and its end
-  pub fill-none : (f : ℕ → A) (l : List A) → take 0 l ≡ tabulate f 0
-  fill-none f l = refl
-
   pub fill-more : (f : ℕ → A) (l : List A) (i : ℕ) (v : A) → i < length l → take i l ≡ tabulate f i → v ≡ f i → take (i + 1) (set l i v) ≡ tabulate f (i + 1)
   fill-more f l i v h e p = rw (add-one i, take-suc-set l i v h, e, p)
 
@@ -43,9 +40,6 @@ module _ {A : Type 0} where
   tab-add f n (suc m) = rw (add-suc n m, tab-add f n m, append-assoc)
 
   -- ---- a loop that goes over l₀ in place: done so far, then what l₀ still has
-  pub over-length : (f : ℕ → A) (l₀ : List A) (i : ℕ) → i ≤ length l₀ → length (tabulate f i ++ drop i l₀) ≡ length l₀
-  over-length f l₀ i h = simp (length-append, length-tab, length-drop) (omega arith)
-
   pub over-read : (f : ℕ → A) (l₀ : List A) (i : ℕ) (d : A) → i < length l₀ → getD (tabulate f i ++ drop i l₀) i d ≡ getD l₀ i d
   over-read f l₀ i d h = rw (drop-cons l₀ i d h) (getD-at (tabulate f i) (getD l₀ i d) _ d i (length-tab f i))
 

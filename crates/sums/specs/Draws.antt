@@ -4,9 +4,7 @@ use mathlib.Core.List.{List}
 use Prim.Native.Nat.{ℕ, zero, suc, _+_, _-_, _%_, _<_}
 use lib.ListN.{length, getD, set, take}
 use Rattle.sums.specs.Tables.{upTo}
-use Rattle.sums.specs.Cells.{Below}
 use Rattle.sums.specs.declared.draws.Cursor.{Cursor}
-use Rattle.sums.specs.declared.draws.Draw.{Draw}
 
 -- Draw number n, from 0: the list is gone through again and again. No other line knows this rule but `cursorAt`.
 unfoldable pub drawn : List ℕ → ℕ → ℕ
@@ -30,14 +28,7 @@ exchangesFrom draws m n i (suc c) places =
 unfoldable pub pick : List ℕ → ℕ → ℕ → ℕ → List ℕ
 pick draws n c m = take c (exchangesFrom draws m n 0 c (upTo m))
 
--- one draw, whatever the count of draws before it
-pub record Stepped (draws : List ℕ) (c : Cursor) (r : Draw) : Type 0 where
-  pub inside : r .next .at < length draws
-  pub steps : (n : ℕ) → c ≡ cursorAt draws n → (r .number ≡ drawn draws n) × (r .next ≡ cursorAt draws (suc n))
-
--- `count` of the numbers below m picked: they stand in front of the places. The cursor is that many draws further
-pub record Picked (draws : List ℕ) (c : Cursor) (count m : ℕ) (r : Cursor) (places : List ℕ) : Type 0 where
+-- What is done with draws from a cursor on: whatever the count n of draws before it, it gives `given n`, and the cursor then stands for `made n` draws.
+pub record Drawn {A : Type 0} (draws : List ℕ) (cursor r : Cursor) (value : A) (given : ℕ → A) (made : ℕ → ℕ) : Type 0 where
   pub inside : r .at < length draws
-  pub below : Below m places
-  pub steps : (n : ℕ) → c ≡ cursorAt draws n
-      → (places ≡ exchangesFrom draws m n 0 count (upTo m)) × (r ≡ cursorAt draws (n + count))
+  pub steps : (n : ℕ) → cursor ≡ cursorAt draws n → (value ≡ given n) × (r ≡ cursorAt draws (made n))

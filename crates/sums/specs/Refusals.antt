@@ -1,8 +1,10 @@
 -- 01, 'Ranges and refusal numbers': which number a call is refused by, and what blank cells hold.
-use mathlib.Core.Bool.{Bool, true, false, _&&_}
+use mathlib.Core.Path.{_≡_}
+use mathlib.Core.Bool.{Bool, true, false, _&&_, cond}
 use mathlib.Core.List.{List, [], _∷_}
 use Prim.Native.Nat.{ℕ, zero, suc}
 use lib.Dec.{eqb, leb}
+use lib.ListN.{length, replicate}
 
 abbrev pub within : ℕ → ℕ → ℕ → Bool
 within low high n = leb low n && leb n high
@@ -15,13 +17,9 @@ sameAll (m ∷ ms) [] = false
 sameAll (m ∷ ms) (n ∷ ns) = eqb m n && sameAll ms ns
 
 -- The conditions left, the first of them that of refusal i: the number of the first that fails, and 0 where none does. So the lowest is given.
-unfoldable pub lowestIf : Bool → ℕ → ℕ → ℕ
-lowestIf true i later = later
-lowestIf false i later = i
-
 unfoldable pub lowestFrom : ℕ → List Bool → ℕ
 lowestFrom i [] = 0
-lowestFrom i (b ∷ conditions) = lowestIf b i (lowestFrom (suc i) conditions)
+lowestFrom i (b ∷ conditions) = cond b (lowestFrom (suc i) conditions) i
 
 abbrev pub lowest : List Bool → ℕ
 lowest conditions = lowestFrom 1 conditions
@@ -55,3 +53,7 @@ onAccepted f (refused number) = refused number
 unfoldable pub cellsOf : {A B : Type 0} → B → ℕ → (A → List B) → Answer A → List B
 cellsOf blank n values (accepted a) = padded blank n (values a)
 cellsOf blank n values (refused number) = padded blank n []
+
+-- a work slice after every call
+abbrev pub Cleared : {A : Type 0} → A → List A → Type 0
+Cleared blank cells = cells ≡ replicate (length cells) blank

@@ -1,8 +1,10 @@
 // Draws from a lent list, in place of the source's generator (01, 'Draws').
 ghost use mathlib.Core.Path.{_≡_};
-ghost use Prim.Native.Nat.{_≤_, _<_};
+ghost use Prim.Native.Nat.{suc, _+_, _≤_, _<_};
 ghost use lib.ListN.{length};
-ghost use Rattle.sums.specs.Draws.{Stepped, Picked};
+ghost use Rattle.sums.specs.Tables.{upTo};
+ghost use Rattle.sums.specs.Cells.{Below};
+ghost use Rattle.sums.specs.Draws.{drawn, exchangesFrom, Drawn};
 use crate::cells;
 
 // The place in the draw list.
@@ -25,7 +27,7 @@ impl Cursor {
     // The next number and the next cursor; after the last number comes the first again.
     pub fn draw(self, draws: &[u32]) -> Draw
         requires { ⌜ self .at < length (now draws) ⌝ }
-        ensures { λ r. ⌜ Stepped (now (draws .entry)) self r ⌝ }
+        ensures { λ r. ⌜ Drawn (now (draws .entry)) self (r .next) (r .number) (λ n. drawn (now (draws .entry)) n) (λ n. suc n) ⌝ }
     {
         let at = self.at;
         let number = draws[at];
@@ -52,7 +54,8 @@ fn wide(x: u32) -> usize
 // Picks `count` of the numbers below the slice's length: they stand in front.
 pub fn pick(draws: &[u32], from: Cursor, places: &mut [u16], count: usize) -> Cursor
     requires { ⌜ (from .at < length (now draws)) × ((count ≤ length (now places)) × (length (now places) ≤ 65536)) ⌝ }
-    ensures { λ r. ⌜ Picked (now (draws .entry)) from count (length (now (places .entry))) r (now (places .exit)) ⌝ }
+    ensures { λ r. ⌜ Below (length (now (places .entry))) (now (places .exit)) ⌝ }
+    ensures { λ r. ⌜ Drawn (now (draws .entry)) from r (now (places .exit)) (λ n. exchangesFrom (now (draws .entry)) (length (now (places .entry))) n 0 count (upTo (length (now (places .entry))))) (λ n. n + count) ⌝ }
 {
     cells::count_up(places);
     let m = places.len();

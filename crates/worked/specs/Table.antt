@@ -12,7 +12,7 @@ use Rattle.sums.specs.Sums.{zero32, one32, two32}
 use Rattle.sums.specs.Refusals.{Answer, accepted, refused}
 use Rattle.labels.specs.Call.{labelCall}
 use Rattle.kmeans.specs.KMeans.{usual}
-use Rattle.kmeans.specs.Call.{lentOf, kmeansCall}
+use Rattle.kmeans.specs.Call.{lengthsOf as KMeans·lengthsOf, kmeansCall}
 use Rattle.closure.specs.Call.{closureCall}
 use Rattle.parts.specs.Parts.{sizesOf}
 use Rattle.parts.specs.Balance.{share, allowed, balance, moves, toward}
@@ -69,7 +69,7 @@ pub record Table : Type 0 where
   pub P8 : closureCall zero32 3 1 3 (zero32 ∷ []) (two32 ∷ one32 ∷ minusOne ∷ []) 3 ≡ accepted (1 ∷ 2 ∷ [])
   pub P8-wide : closureCall one32 3 1 3 (zero32 ∷ []) (two32 ∷ one32 ∷ minusOne ∷ []) 3 ≡ accepted (1 ∷ 2 ∷ 0 ∷ [])
   pub P9 : closureCall one32 0 1 3 (zero32 ∷ []) (two32 ∷ one32 ∷ minusOne ∷ []) 3 ≡ accepted []
-  pub P10 : kmeansCall 2 1 1 usual (0 ∷ []) (zero32 ∷ one32 ∷ []) (lentOf 2 1 2 2 2 2 2 2)
+  pub P10 : kmeansCall 2 1 1 usual (0 ∷ []) (zero32 ∷ one32 ∷ []) (KMeans·lengthsOf 2 1 1)
       ≡ accepted (record { labels = 0 ∷ 0 ∷ []; centroids = (half ∷ []) ∷ []; objective = half; restart = 0 })
   -- 01 gives no readings and no weight here: whatever they are
   pub P11 : (a b c weight : Float) → batch (a ∷ b ∷ c ∷ []) 2 4 weight 0 ≡ refused 6

@@ -71,15 +71,13 @@ list-requires c κs =
     let a = e .before .before .before .before .before .before .before .before .before .args in
     let f = fits e in
     let b = blanks (e .before .before .before .before) in
-    let n : length (e .before .before .before .before .fill .last .0) ≡ a .count = b .0 ∙ f .cells-are in
-    record {
-      some = rw n (above-none (a .count) (c .before .before .before .before .if2 .left));
-      few = rw n (f .few);
-      rows = rw (n, f .row-is) (f .rows-are);
-      room = length-take-le (a .count) (replicate 64 (ofBits binary32 0)) (f .few) ∙ sym n;
-      places = length-take-le (a .count) (replicate 64 0) (f .few) ∙ sym n;
-      blanks = b .1 ∙ ap (λ (k : ℕ). replicate k blankCell) (sym (b .0));
-    }
+    let n : length (e .before .before .before .before .fill .last .0) ≡ a .count = b .0 ∙ f .cells-are in (
+      (rw n (above-none (a .count) (c .before .before .before .before .if2 .left)), rw n (f .few)),
+      (
+        (rw (n, f .row-is) (f .rows-are), (length-take-le (a .count) (replicate 64 (ofBits binary32 0)) (f .few) ∙ sym n, length-take-le (a .count) (replicate 64 0) (f .few) ∙ sym n)),
+        b .1 ∙ ap (λ (k : ℕ). replicate k blankCell) (sym (b .0)),
+      ),
+    )
 
 same-length-3 : tie.Need-same-length-3
 same-length-3 c = search needs

@@ -4,9 +4,10 @@ use mathlib.Core.Bool.{true, false}
 use lib.ListN.{length, take}
 use lib.Seq.{length-take-le}
 use Rattle.sums.specs.Rows.{rowsFrom}
-use Rattle.closure.specs.Closure.{distances, unordered}
+use Rattle.closure.specs.Closure.{inReach, distances, unordered}
+use Rattle.sums.proofs.Orders.{keep-le}
 use Rattle.sums.proofs.Belows.{below-take}
-use Rattle.closure.proofs.Laws.{distances-length, is-closure, answered-nan, answered-list, gives-refused, gives-list, chosen-le}
+use Rattle.closure.proofs.Laws.{distances-length, is-closure, answered-nan, answered-list, gives-refused, gives-list}
 use native.Mathlib.Omega.{arith}
 use borrow.Author.Needs.{needs}
 use Rattle.closure.proofs.list.Statement.{statement}
@@ -16,21 +17,21 @@ use Rattle.closure.proofs.list.Tie as tie
 filled : (c : tie.After-fill-distances)
     → let a = c .before .before .before .before .before .before .before .args in
     c .fill-distances .last .1 .1 .0 ≡ distances (a .vector .now) (rowsFrom (length (a .vector .now)) (length (a .cells .now)) (a .centroids .now))
-filled c = rw (c .before .before .before .before .before .before .before .pre .room) at (c .fill-distances .ensures)
+filled c = rw (c .before .before .before .before .before .before .before .pre .1 .0 .1 .0) at (c .fill-distances .ensures)
 
 many : (c : tie.After-fill-distances) → length (c .fill-distances .last .1 .1 .0) ≡ length (c .before .before .before .before .before .before .before .args .cells .now)
 many c = let a = c .before .before .before .before .before .before .before .args in rw (filled c) (distances-length (a .vector .now) (length (a .vector .now)) (length (a .cells .now)) (a .centroids .now))
 
 -- the positions, once ordered
 placed : (c : tie.After-order) → length (c .order .last .1 .0) ≡ length (c .before .before .before .before .before .before .before .before .before .before .before .before .before .before .before .args .cells .now)
-placed c = c .order .kept .1 .0 ∙ c .before .before .before .before .before .before .before .before .before .before .before .before .before .before .before .pre .places
+placed c = c .order .kept .1 .0 ∙ c .before .before .before .before .before .before .before .before .before .before .before .before .before .before .before .pre .1 .0 .1 .1
 
 -- how many of them are looked at
 looked : (c : tie.After-least) → c .least .result ≤ length (c .before .before .before .before .before .before .before .order .last .1 .0)
 looked c = omega (arith, c .least .ensures)
 
 fill-distances-requires : tie.Need-fill-distances-requires
-fill-distances-requires c κs = let z = c .before .before .before .before .before .before in rw (z .pre .room) (z .pre .rows)
+fill-distances-requires c κs = let z = c .before .before .before .before .before .before in rw (z .pre .1 .0 .1 .0) (z .pre .1 .0 .0)
 
 unordered-requires : tie.Need-unordered-requires
 unordered-requires c κs = search needs
@@ -45,18 +46,18 @@ returns c =
     let z = f .before .before .before .before .before .before .before in
     let a = z .args in
     let nan : unordered (f .fill-distances .last .1 .1 .0) ≡ true = sym (u .unordered .ensures) ∙ c .if1 .taken in
-    rw (answered-nan (a .epsilon) (a .replicas) (a .vector .now) _ (rw (filled f) at nan)) (gives-refused 5 (length (a .cells .now)) (a .cells .now) (z .pre .blanks))
+    rw (answered-nan (a .epsilon) (a .replicas) (a .vector .now) _ (rw (filled f) at nan)) (gives-refused 5 (length (a .cells .now)) (a .cells .now) (z .pre .1 .1))
 
 order-requires : tie.Need-order-requires
 order-requires c κs =
     let f = c .before .before .before .before .before .before .before in
     let z = f .before .before .before .before .before .before .before in
-    (many f ∙ sym (z .pre .places), omega (arith, z .pre .places, z .pre .few))
+    (many f ∙ sym (z .pre .1 .0 .1 .1), omega (arith, z .pre .1 .0 .1 .1, z .pre .0 .1))
 
 slice-read-wide : tie.Need-slice-read-wide
 slice-read-wide c =
     let o = c .before .before .before in
-    omega (arith, placed o, o .before .before .before .before .before .before .before .before .before .before .before .before .before .before .before .pre .some)
+    omega (arith, placed o, o .before .before .before .before .before .before .before .before .before .before .before .before .before .before .before .pre .0 .0)
 
 wide-requires : tie.Need-wide-requires
 wide-requires c κs = search needs
@@ -67,7 +68,7 @@ mul-new c = search needs
 slice-read-new : tie.Need-slice-read-new
 slice-read-new c =
     let o = c .before .before .before .before .before in
-    omega (arith, o .order .ensures .1 0 (omega (arith, placed o, o .before .before .before .before .before .before .before .before .before .before .before .before .before .before .before .pre .some)), c .before .wide .ensures .0)
+    omega (arith, o .order .ensures .1 0 (omega (arith, placed o, o .before .before .before .before .before .before .before .before .before .before .before .before .before .before .before .pre .0 .0)), c .before .wide .ensures .0)
 
 new-requires : tie.Need-new-requires
 new-requires c κs = search needs
@@ -86,14 +87,14 @@ select-requires c κs =
     let l = c .before .before .before in
     let o = l .before .before .before .before .before .before .before in
     let z = o .before .before .before .before .before .before .before .before .before .before .before .before .before .before .before in
-    (omega (arith, length-take-le (l .least .result) (o .order .last .1 .0) (looked l), looked l, placed o), (below-take (length (o .before .before .before .before .before .before .before .before .fill-distances .last .1 .1 .0)) (l .least .result) (o .order .last .1 .0) (o .order .ensures .1), z .pre .blanks))
+    (omega (arith, length-take-le (l .least .result) (o .order .last .1 .0) (looked l), looked l, placed o), (below-take (length (o .before .before .before .before .before .before .before .before .fill-distances .last .1 .1 .0)) (l .least .result) (o .order .last .1 .0) (o .order .ensures .1), z .pre .1 .1))
 
 cast-t23 : tie.Need-cast-t23
 cast-t23 c =
     let s = c .before .before in
     let l = s .before .before .before .before in
     let o = l .before .before .before .before .before .before .before in
-    record { fits = omega (arith, s .select .ensures .1, chosen-le (l .before .new .result) (o .before .before .before .before .before .before .before .before .fill-distances .last .1 .1 .0) (take (l .least .result) (o .order .last .1 .0)), length-take-le (l .least .result) (o .order .last .1 .0) (looked l), looked l, placed o, o .before .before .before .before .before .before .before .before .before .before .before .before .before .before .before .pre .few) }
+    record { fits = omega (arith, s .select .ensures .1, keep-le (inReach (l .before .new .result) (o .before .before .before .before .before .before .before .before .fill-distances .last .1 .1 .0)) (take (l .least .result) (o .order .last .1 .0)), length-take-le (l .least .result) (o .order .last .1 .0) (looked l), looked l, placed o, o .before .before .before .before .before .before .before .before .before .before .before .before .before .before .before .pre .0 .1) }
 
 same-length-2 : tie.Need-same-length-2
 same-length-2 c = search needs
@@ -116,7 +117,7 @@ returns-2 c =
     let ds = f .fill-distances .last .1 .1 .0 in
     let ordered : unordered ds ≡ false = sym (o .before .before .before .before .unordered .ensures) ∙ o .before .before .before .if1 .left in
     let found = is-closure (a .vector .now) centroids (a .epsilon) (a .replicas) ds (o .order .last .1 .0) (l .before .new .result) (l .least .result) (l .before .before .before .wide .result) (filled f)
-    (l .before .before .before .wide .ensures .0) (l .before .new .ensures) (l .least .ensures) (omega (arith, placed o, z .pre .some)) (o .order .ensures .0) in
+    (l .before .before .before .wide .ensures .0) (l .before .new .ensures) (l .least .ensures) (omega (arith, placed o, z .pre .0 .0)) (o .order .ensures .0) in
     rw (answered-list (a .epsilon) (a .replicas) (a .vector .now) centroids (rw (filled f) at ordered))
     (gives-list _ _ (length (a .cells .now)) (s .select .result) _ found (s .select .ensures .1) (s .select .ensures .0))
 

@@ -4,7 +4,6 @@ use mathlib.Core.Path.{_≡_, refl, sym, ap, _∙_}
 use mathlib.Core.Logic.{⊎-elim}
 use lib.ListN.{length, length-set}
 use lib.Seq.{take-all}
-use Rattle.closure.specs.Inside.{chosen}
 use Rattle.sums.proofs.Refusing.{padded-none}
 use Rattle.closure.proofs.Laws.{Turn, listed-in, passed-by}
 use borrow.Author.Needs.{needs}
@@ -20,7 +19,7 @@ abbrev μ-loop : tie.MeasureT-loop
 μ-loop reach distances at cells₀ n₀ j₀ cells n j = length at - j
 
 loop-holds : tie.Need-loop-holds Inv-loop μ-loop
-unfolding chosen keep
+unfolding keep
 loop-holds c =
     let z = c .before .before .before in
     (search needs, (search needs, (refl, record { number = refl; listing = z .pre .1 .1 ∙ sym (padded-none 65535 (length (z .args .cells .now))) })))

@@ -3,6 +3,7 @@ use Rattle.grouping.specs.Groups.{Groups, grouping}
 use Rattle.sums.specs.Rows.{rowsFrom}
 use Rattle.sums.specs.Refusals.{Answer}
 use lib.Seq.{length-take-le}
+use Rattle.grouping.proofs.Rooms.{group-in}
 use Rattle.grouping.proofs.Calls.{Fitting, fitting, gives-refused, called-is, room-at, grouped-at, gives-called}
 use lib.ListN.{length, take, replicate}
 use Rattle.sums.specs.Tables.{upTo}
@@ -52,15 +53,15 @@ parts-long k h = length-take-le k zeros h
 count-up-requires : tie.Need-count-up-requires
 count-up-requires c κs =
     let f = fits (c .before) in
-    omega (arith, f .order-is, f .room .few-rows)
+    omega (arith, f .order-is, f .limits .1 .1)
 
 -- src/call.rt:199:9
 array-borrow-prefix-sizes : tie.Need-array-borrow-prefix-sizes
-array-borrow-prefix-sizes c = fits (c .before .before .before .before .before .before) .room .few
+array-borrow-prefix-sizes c = fits (c .before .before .before .before .before .before) .limits .1 .0 .1
 
 -- src/call.rt:199:9
 slice-aggregate-cluster : tie.Need-slice-aggregate-cluster
-slice-aggregate-cluster c = sym (parts-long _ (fits (c .before .before .before .before .before .before .before) .room .few))
+slice-aggregate-cluster c = sym (parts-long _ (fits (c .before .before .before .before .before .before .before) .limits .1 .0 .1))
 
 -- src/call.rt:190:9
 cluster-requires : tie.Need-cluster-requires
@@ -68,7 +69,7 @@ cluster-requires c κs =
     let f = fits (c .before .before .before .before .before .before .before .before .before .before .before .before .before .before .before .before .before) in
     let u = c .before .before .before .before .before .before .before .before .before .before .before .before .before .before .before .count-up in
     let z = start-of (c .before .before .before .before .before .before .before .before .before .before .before .before .before .before .before .before .before) in
-    (room-at _ _ (u .kept .0 ∙ f .order-is) (parts-long _ (f .room .few)) (f .room), (u .ensures ∙ ap upTo (sym (u .kept .0)), (z .pre .1 .1 .0, (f .some-draws, omega (arith, f .few-splits)))))
+    (room-at _ _ (u .kept .0 ∙ f .order-is) (parts-long _ (f .limits .1 .0 .1)) (f .limits) (f .room), (u .ensures ∙ ap upTo (sym (u .kept .0)), (z .pre .1 .1 .0, (f .some-draws, omega (arith, f .few-splits)))))
 
 -- src/call.rt:211:5
 finish-requires : tie.Need-finish-requires
@@ -79,8 +80,8 @@ finish-requires c κs =
     let w = c .before .before .before .before .before .before .before .before .before .before .before .before .before .before .before .before .before .before .before .before .before .before .before .before .before .before .before .before .cluster in
     let l : length (w .last .1 .1 .1 .1 .1 .1 .0) ≡ length (u .last .0) = w .kept .1 .1 .1 .1 .1 .1 .0 in
     let o : length (w .last .1 .1 .1 .1 .1 .1 .0) ≡ z .args .rows = l ∙ (u .kept .0 ∙ f .order-is) in
-    let e : length (w .last .1 .1 .1 .1 .1 .1 .1 .0) ≡ z .args .rows = w .kept .1 .1 .1 .1 .1 .1 .1 .0 ∙ f .room .end-cells in
-    ((f .room .value-cells ∙ rw o, (f .mean-cells ∙ rw o, (e ∙ sym o, rw o (f .room .few-rows)))), (record { answer = _; grouped = grouped-at _ l (w .ensures) }, z .pre .1 .1 .1))
+    let e : length (w .last .1 .1 .1 .1 .1 .1 .1 .0) ≡ z .args .rows = w .kept .1 .1 .1 .1 .1 .1 .1 .0 ∙ (group-in (f .limits, f .room)) .end-cells in
+    (((group-in (f .limits, f .room)) .value-cells ∙ rw o, (f .mean-cells ∙ rw o, (e ∙ sym o, rw o (f .limits .1 .1)))), (record { answer = _; grouped = grouped-at _ l (w .ensures) }, z .pre .1 .1 .1))
 
 -- src/call.rt:155:1
 same-length : tie.Need-same-length
@@ -144,7 +145,7 @@ returns-2 c =
     let w = c .before .before .before .before .before .before .before .before .before .before .before .before .before .before .before .before .before .before .before .before .before .before .before .before .before .before .before .before .before .before .before .before .before .before .before .cluster in
     let l : length (w .last .1 .1 .1 .1 .1 .1 .0) ≡ length (u .last .0) = w .kept .1 .1 .1 .1 .1 .1 .0 in
     let g = c .before .before .before .before .before .before .finish .ensures _ (grouped-at _ l (w .ensures)) in
-    gives-called (a .draws .now) (a .rows) (a .dim) (a .limit) (a .branching) (a .weight) (a .budget) (a .values .now) (lentAt z) _ _ _ _ _ _ _ (sym (z .pre .0) ∙ c .before .before .before .before .before .before .before .before .before .before .before .before .before .before .before .before .before .before .before .before .before .before .before .before .before .before .before .before .before .before .before .before .before .before .before .before .before .before .before .before .before .before .before .before .before .before .before .before .before .before .before .before .before .if1 .left) (u .kept .0 ∙ f .order-is) (parts-long _ (f .room .few)) (l ∙ (u .kept .0 ∙ f .order-is)) (f .order-is) (w .kept .1 .1 .1 .1 .1 .1 .1 .0) g
+    gives-called (a .draws .now) (a .rows) (a .dim) (a .limit) (a .branching) (a .weight) (a .budget) (a .values .now) (lentAt z) _ _ _ _ _ _ _ (sym (z .pre .0) ∙ c .before .before .before .before .before .before .before .before .before .before .before .before .before .before .before .before .before .before .before .before .before .before .before .before .before .before .before .before .before .before .before .before .before .before .before .before .before .before .before .before .before .before .before .before .before .before .before .before .before .before .before .before .before .if1 .left) (u .kept .0 ∙ f .order-is) (parts-long _ (f .limits .1 .0 .1)) (l ∙ (u .kept .0 ∙ f .order-is)) (f .order-is) (w .kept .1 .1 .1 .1 .1 .1 .1 .0) g
 
 pub answer-spec : {M : Type 1} → statement M
 answer-spec =

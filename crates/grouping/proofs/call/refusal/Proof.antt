@@ -1,6 +1,6 @@
 use Rattle.grouping.specs.Call.{groupingRefusal, rangesFit, lengthsFit}
 use Rattle.grouping.proofs.Calls.{ranged}
-use Rattle.sums.specs.Refusals.{lowestIf, lowestFrom}
+use Rattle.sums.specs.Refusals.{lowestFrom}
 use mathlib.Core.Path.{_≡_, sym, _∙_}
 use mathlib.Core.List.{[], _∷_}
 use mathlib.Core.Bool.{true}
@@ -28,7 +28,7 @@ ranges-fit-requires c κs = search needs
 
 -- src/call.rt:97:9
 returns : tie.Need-returns
-unfolding groupingRefusal lowestIf lowestFrom
+unfolding groupingRefusal lowestFrom
 returns c = rw (← c .before .ranges-fit .ensures, not-true (c .before .ranges-fit .result) (c .if1 .taken))
 
 -- src/call.rt:99:9
@@ -40,22 +40,22 @@ lengths-fit-requires c κs =
 
 -- src/call.rt:117:9
 returns-2 : tie.Need-returns-2
-unfolding groupingRefusal lowestIf lowestFrom
+unfolding groupingRefusal lowestFrom
 returns-2 c = rw (in-range (c .before .before), ← c .before .lengths-fit .ensures, not-true (c .before .lengths-fit .result) (c .if2 .taken))
 
 -- src/call.rt:120:9
 returns-3 : tie.Need-returns-3
-unfolding groupingRefusal lowestIf lowestFrom
+unfolding groupingRefusal lowestFrom
 returns-3 c = rw (in-range (c .before .before .before), in-length (c .before), lt-leb _ _ (c .if3 .taken))
 
 -- src/call.rt:123:9
 returns-4 : tie.Need-returns-4
-unfolding groupingRefusal lowestIf lowestFrom
+unfolding groupingRefusal lowestFrom
 returns-4 c = rw (in-range (c .before .before .before .before), in-length (c .before .before), le-leb _ _ (c .before .if3 .left), lt-leb _ _ (c .if4 .taken))
 
 -- src/call.rt:72:1
 returns-5 : tie.Need-returns-5
-unfolding groupingRefusal lowestIf lowestFrom
+unfolding groupingRefusal lowestFrom
 returns-5 c = rw (in-range (c .before .before .before .before), in-length (c .before .before), le-leb _ _ (c .before .if3 .left), le-leb _ _ (c .if4 .left))
 
 pub refusal-spec : {M : Type 1} → statement M

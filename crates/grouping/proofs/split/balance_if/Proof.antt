@@ -16,11 +16,11 @@ same-length-2 c = search needs
 
 returns : tie.Need-returns
 unfolding ofBits
-returns c = λ ps pe se. balanced-above (c .before .before .before .before .before .before .before .if1 .taken) (c .before .before .before .before .balance-clusters .ensures ps pe se)
+returns c = λ ps pe se. balanced-above _ _ _ ps (c .before .before .before .before .before .before .before .if1 .taken) (c .before .before .before .before .balance-clusters .ensures ps pe se)
 
 returns-2 : tie.Need-returns-2
 unfolding ofBits
-returns-2 c = λ ps pe se. balanced-not (c .if1 .left) pe se
+returns-2 c = λ ps pe se. balanced-not _ _ _ ps (c .if1 .left) pe se
 
 pub balance-if-spec : {M : Type 1} → statement M
 balance-if-spec =

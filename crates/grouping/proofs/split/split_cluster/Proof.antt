@@ -7,7 +7,8 @@ use lib.Seq.{length-take-le}
 use lib.Ieee.{Float, binary32, ofBits}
 use Rattle.sums.specs.Rows.{Row, rowsFrom, rowsAt}
 use Rattle.sums.proofs.Fronts.{Front, front}
-use Rattle.kmeans.specs.Inside.{Ran}
+use Rattle.kmeans.proofs.Restarts.{Ran}
+use Rattle.grouping.proofs.Rooms.{split-in}
 use Rattle.kmeans.specs.KMeans.{forGrouping}
 use Rattle.parts.specs.Parts.{gathered, sizesOf, flat}
 use Rattle.parts.proofs.Layouts.{sizes-total}
@@ -36,7 +37,7 @@ abbrev width : tie.Start → ℕ
 width z = parts z * z .args .dim
 
 width-fits : (z : tie.Start) → width z ≤ 4096
-width-fits z = mul-le-mul (z .pre .0 .few) (z .pre .0 .small-dim)
+width-fits z = mul-le-mul ((split-in (z .pre .0)) .few) ((split-in (z .pre .0)) .small-dim)
 
 -- as long as the part lent is
 centroids-lent : (z : tie.Start) → length (take (width z) (replicate 4096 (ofBits binary32 0))) ≡ width z
@@ -53,10 +54,10 @@ module _ (c : tie.After-run-kmeans-flat) where
   -- it ran over the group's rows
   ran : let z = start-of c in
       Ran (z .args .draws .now) forGrouping (parts z) (z .args .dim) (rowsAt (table z) (z .args .part .now)) (z .args .cursor) (c .run-kmeans-flat .result) (labels-after c) (rowsFrom (z .args .dim) (parts z) (centroids-after c))
-  ran = rw (c .before .before .before .before .before .before .before .before .before .before .for-grouping .ensures, start-of c .pre .0 .label-cells, c .before .before .before .before .before .before .before .before .before .before .before .before .before .gather-rows .ensures) at (c .run-kmeans-flat .ensures)
+  ran = rw (c .before .before .before .before .before .before .before .before .before .before .for-grouping .ensures, (split-in (start-of c .pre .0)) .label-cells, c .before .before .before .before .before .before .before .before .before .before .before .before .before .gather-rows .ensures) at (c .run-kmeans-flat .ensures)
 
   found : let z = start-of c in Labelled (z .args .rows) (parts z) (z .args .part .now) (labels-after c)
-  found = let z = start-of c in labelled _ (table z) (z .args .part .now) (z .pre .1 .1) (z .pre .0 .some) (z .pre .0 .enough) (z .pre .1 .0) ran
+  found = let z = start-of c in labelled (z .args .dim) _ (table z) (z .args .part .now) (z .pre .1 .1) ((split-in (z .pre .0)) .some) ((split-in (z .pre .0)) .enough) (z .pre .1 .0) ran
 
   -- what is lent of the array for balancing, and that it is there
   centroids-hold : let z = start-of c in Front (width z) (centroids-after c ++ drop (width z) (replicate 4096 (ofBits binary32 0))) (centroids-after c)
@@ -79,7 +80,7 @@ mul-width c = omega (arith, width-fits (c .before .before .before .before .befor
 gather-rows-requires : tie.Need-gather-rows-requires
 gather-rows-requires c κs =
     let z = c .before .before .before .before .before .before .before .before .before .before .before .before .before .before .before in
-    (z .pre .0 .value-cells, (z .pre .0 .gathered-cells, (z .pre .1 .0, omega (arith, z .pre .0 .few-rows))))
+    ((split-in (z .pre .0)) .value-cells, ((split-in (z .pre .0)) .gathered-cells, (z .pre .1 .0, omega (arith, (split-in (z .pre .0)) .few-rows))))
 
 for-grouping-requires : tie.Need-for-grouping-requires
 for-grouping-requires c κs = search needs
@@ -93,15 +94,15 @@ slice-aggregate-run-kmeans-flat c = sym (centroids-lent (c .before .before .befo
 run-kmeans-flat-requires : tie.Need-run-kmeans-flat-requires
 run-kmeans-flat-requires c κs =
     let z = c .before .before .before .before .before .before .before .before .before .before .before .before .before .before .before .before .before .before .before .before .before .before .before .before .before .before .before .before in
-    (rw (c .before .before .before .before .before .before .before .before .before .before .before .before .gather-rows .kept .1 .1 .1 .1 .0) (split-space (z .pre .0) _ _ (c .before .before .before .before .before .before .before .before .before .for-grouping .ensures) (centroids-lent z)), z .pre .1 .1)
+    (rw (c .before .before .before .before .before .before .before .before .before .before .before .before .gather-rows .kept .1 .1 .1 .1 .0) (split-space (split-in (z .pre .0)) _ _ (c .before .before .before .before .before .before .before .before .before .for-grouping .ensures) (centroids-lent z)), z .pre .1 .1)
 
 copy-cells-requires : tie.Need-copy-cells-requires
-copy-cells-requires c κs = start-of (c .before .before .before .before .before .before .before .before .before .before .before .before .before .before .before .before .before) .pre .0 .copied-cells
+copy-cells-requires c κs = (split-in (start-of (c .before .before .before .before .before .before .before .before .before .before .before .before .before .before .before .before .before) .pre .0)) .copied-cells
 
 gather-requires : tie.Need-gather-requires
 gather-requires c κs =
     let r = c .before .before .before .before .before .before .before .before .before .before .before .before .before .before .before .before .before .before .before .before .before .before .before .before in
-    rw (c .before .before .before .before .before .before .copy-cells .ensures) (found r .each, (refl, (omega (arith, start-of r .pre .0 .few-rows), found r .among)))
+    rw (c .before .before .before .before .before .before .copy-cells .ensures) (found r .each, (refl, (omega (arith, (split-in (start-of r .pre .0)) .few-rows), found r .among)))
 
 array-share-prefix-centroids : tie.Need-array-share-prefix-centroids
 array-share-prefix-centroids c = centroids-hold (c .before .before .before .before .before .before .before .before .before .before .before .before .before .before .before .before .before .before .before .before .before .before .before .before .before .before .before .before .before) .fits
@@ -116,8 +117,8 @@ balance-if-requires c κs =
     let z = start-of r in
     let k = g .gather .kept .1 .1 .1 .0 in
     let n = g .gather .kept .0 in (
-      (z .pre .0 .value-cells, centroids-hold r .long ∙ ap (λ (n : ℕ). n * z .args .dim) (sym k), rw (laid g) (found r .below)),
-      (rw k (z .pre .0 .some), rw (k, n) (z .pre .0 .enough), sizes-total (parts-after g) _ _ (laid g) (sized g), rw n (z .pre .0 .few-rows)),
+      ((split-in (z .pre .0)) .value-cells, centroids-hold r .long ∙ ap (λ (n : ℕ). n * z .args .dim) (sym k), rw (laid g) (found r .below)),
+      (rw k ((split-in (z .pre .0)) .some), rw (k, n) ((split-in (z .pre .0)) .enough), sizes-total (parts-after g) _ _ (laid g) (sized g), rw n ((split-in (z .pre .0)) .few-rows)),
     )
 
 same-length : tie.Need-same-length
@@ -158,7 +159,7 @@ returns c =
     let g = c .before .before .before .before .before .before .before .before .before .before .before .before .before in
     let r = run-of g in
     let z = start-of r in
-    split-done (table z) (z .args .weight) _ _ (z .pre .0 .few-rows) (found r) (ran r)
+    split-done (z .args .dim) (table z) (z .args .weight) _ _ ((split-in (z .pre .0)) .few-rows) (found r) (ran r)
     (rw (g .gather .kept .1 .1 .1 .0, centroids-hold r .is) at (c .before .before .before .before .before .balance-if .ensures (parts-after g) (laid g) (sized g)))
 
 pub split-cluster-spec : {M : Type 1} → statement M

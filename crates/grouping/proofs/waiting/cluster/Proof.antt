@@ -1,6 +1,8 @@
 use Rattle.grouping.proofs.States.{Kept, Fronts, fits, lent, Clustering, clustering-none, clustering-start, clustering-list, clustering-six, clustering-seven, clustering-split, clustering-end, end-room, split-room, one-more, not-spent, falls}
 use Rattle.parts.specs.Inside.{total}
-use Rattle.grouping.specs.Inside.{ruleOf, pushes, Split}
+use Rattle.grouping.specs.Inside.{ruleOf, pushes}
+use Rattle.grouping.proofs.Rooms.{group-in, split-out}
+use Rattle.grouping.proofs.Splits.{Split, divided as divided-by}
 use Rattle.sums.proofs.Belows.{below-take, below-drop}
 use Rattle.sums.specs.Rows.{rowsFrom}
 use borrow.Rule.Slice.PartMut.{midOf, mid-len, same-len-mid}
@@ -52,7 +54,7 @@ fronts : (c : tie.After-wide Inv-loop μ-loop)
 fronts c =
     let k = loop-of c in
     let r = inside c in
-    fits (k .loop .inv .0) (start-of k .pre .0) (size-of c) (omega (arith, r))
+    fits (k .loop .inv .0) (group-in (start-of k .pre .0)) (size-of c) (omega (arith, r))
 
 module _ (c : tie.After-split-cluster Inv-loop μ-loop) where
   abbrev w : tie.After-wide Inv-loop μ-loop
@@ -67,7 +69,7 @@ module _ (c : tie.After-split-cluster Inv-loop μ-loop) where
   -- what the split gives, by the number of parts at the call's start
   divided : Split (ruleOf (s .args .draws .now) (s .args .dim) (rowsFrom (s .args .dim) (length (s .args .order .now)) (s .args .values .now)) (length (s .args .sizes .now)) (s .args .weight))
       (length (s .args .order .now)) (midOf (k .loop .start) (size-of w) (k .loop .order)) (k .loop .cursor) (c .split-cluster .result) (c .split-cluster .last .1 .1 .1 .1 .1 .1 .0) (c .split-cluster .last .1 .1 .1 .1 .1 .1 .1 .0)
-  divided = rw (k .loop .inv .0 .sizes-kept) at (c .split-cluster .ensures)
+  divided = divided-by (rw (k .loop .inv .0 .sizes-kept) at (c .split-cluster .ensures))
 
   -- the parts' ends have room on the stack
   room-left : (k .loop .top - 1 + length (pushes (w .wide .result) (c .split-cluster .last .1 .1 .1 .1 .1 .1 .1 .0)) ≤ length (s .args .order .now)) × (total (c .split-cluster .last .1 .1 .1 .1 .1 .1 .1 .0) ≤ w .wide .result)
@@ -77,13 +79,13 @@ returns : tie.Need-returns Inv-loop μ-loop
 returns c =
     let s = c .before .before .before .before .before .before .before .before .before .before .before .before .before .before .before .before in
     clustering-none (s .args .draws .now) (s .args .dim) (s .args .values .now) (length (s .args .sizes .now)) (s .args .weight) (s .args .limit) (s .args .budget)
-    (s .args .order .now) (s .pre .1 .0) (s .args .ends .now) (c .if1 .taken) (s .pre .0 .end-cells)
+    (s .args .order .now) (s .pre .1 .0) (s .args .ends .now) (c .if1 .taken) ((group-in (s .pre .0)) .end-cells)
 
 cast-waiting : tie.Need-cast-waiting Inv-loop μ-loop
 cast-waiting c = search needs
 
 slice-write-waiting : tie.Need-slice-write-waiting Inv-loop μ-loop
-slice-write-waiting c = search needs
+slice-write-waiting c = omega (arith, (group-in (c .before .before .before .before .before .before .before .before .before .before .before .before .before .before .before .before .pre .0)) .waiting-cells, c .if1 .left)
 
 new-requires : tie.Need-new-requires Inv-loop μ-loop
 new-requires c κs = search needs
@@ -96,7 +98,7 @@ loop-holds c =
         order-kept = refl;
         ends-kept = refl;
         sizes-kept = refl;
-        waiting-kept = length-set (s .args .waiting .now) 0 _ ∙ s .pre .0 .waiting-cells;
+        waiting-kept = length-set (s .args .waiting .now) 0 _ ∙ (group-in (s .pre .0)) .waiting-cells;
         copied-kept = refl;
         labels-kept = refl;
         gathered-kept = refl;
@@ -108,8 +110,8 @@ loop-holds c =
         places-kept = refl;
       },
       clustering-start (s .args .draws .now) (s .args .dim) (s .args .values .now) (length (s .args .sizes .now)) (s .args .weight) (s .args .limit) (s .args .budget)
-          (s .args .order .now) (s .pre .1 .0) (s .args .waiting .now) (s .args .ends .now) (c .new .result) some (omega (arith, s .pre .0 .waiting-cells))
-          (s .pre .0 .end-cells) (s .pre .1 .1 .0) (s .pre .1 .1 .1 .0) (c .new .ensures),
+          (s .args .order .now) (s .pre .1 .0) (s .args .waiting .now) (s .args .ends .now) (c .new .result) some (omega (arith, (group-in (s .pre .0)) .waiting-cells))
+          ((group-in (s .pre .0)) .end-cells) (s .pre .1 .1 .0) (s .pre .1 .1 .1 .0) (c .new .ensures),
     )
 
 sub-wide : tie.Need-sub-wide Inv-loop μ-loop
@@ -138,7 +140,9 @@ mul-ends : tie.Need-mul-ends Inv-loop μ-loop
 mul-ends c = search needs
 
 slice-write-ends : tie.Need-slice-write-ends Inv-loop μ-loop
-slice-write-ends c = search needs
+slice-write-ends c =
+    let k = c .before .before .before .before in
+    omega (arith, k .loop .inv .1 .room, k .loop .inv .0 .ends-kept, (group-in (start-of k .pre .0)) .end-cells, c .before .before .before .loop-test .taken)
 
 add-groups : tie.Need-add-groups Inv-loop μ-loop
 add-groups c = search needs
@@ -184,7 +188,7 @@ same-length-3 c = search needs
 same-length-4 : tie.Need-same-length-4 Inv-loop μ-loop
 same-length-4 c =
     let k = loop-of (c .before .before) in
-    k .loop .inv .0 .waiting-kept ∙ sym (start-of k .pre .0 .waiting-cells)
+    k .loop .inv .0 .waiting-kept ∙ sym ((group-in (start-of k .pre .0)) .waiting-cells)
 
 same-length-5 : tie.Need-same-length-5 Inv-loop μ-loop
 same-length-5 c = search needs
@@ -231,7 +235,7 @@ same-length-16 c = search needs
 same-length-17 : tie.Need-same-length-17 Inv-loop μ-loop
 same-length-17 c =
     let k = loop-of (c .before .before .before) in
-    k .loop .inv .0 .waiting-kept ∙ sym (start-of k .pre .0 .waiting-cells)
+    k .loop .inv .0 .waiting-kept ∙ sym ((group-in (start-of k .pre .0)) .waiting-cells)
 
 same-length-18 : tie.Need-same-length-18 Inv-loop μ-loop
 same-length-18 c = search needs
@@ -348,8 +352,8 @@ split-cluster-requires c κs =
     let n = length (s .args .order .now) in
     let r = inside w in
     let m = mid-len (k .loop .start) (w .wide .result) (k .loop .order) (omega (arith, r, k .loop .inv .0 .order-kept)) in (
-      lent (k .loop .inv .0) (s .pre .0) (size-of w) (omega (arith, r)) (length (midOf (k .loop .start) (size-of w) (k .loop .order))) m
-          (omega (arith, e .before .if3 .left, k .loop .inv .0 .sizes-kept)),
+      split-out (lent (k .loop .inv .0) (group-in (s .pre .0)) (size-of w) (omega (arith, r)) (length (midOf (k .loop .start) (size-of w) (k .loop .order))) m
+          (omega (arith, e .before .if3 .left, k .loop .inv .0 .sizes-kept))),
       (
         below-take n (size-of w) (drop (k .loop .start) (k .loop .order)) (below-drop n (k .loop .start) (k .loop .order) (k .loop .inv .1 .below)),
         k .loop .inv .1 .inside,
@@ -380,7 +384,7 @@ loop-less-2 c =
     let s = start-of k in
     let P = c .before .before .push in
     let left = not-spent (k .loop .splits) (s .args .budget) (k .loop .inv .1 .spent) (e .if4 .left) in
-    falls (s .args .budget) (k .loop .splits) (k .loop .top) (P .result) _ (length (s .args .order .now)) left (P .ensures .0) (room-left (split-of c) .0) (s .pre .0 .few-rows)
+    falls (s .args .budget) (k .loop .splits) (k .loop .top) (P .result) _ (length (s .args .order .now)) left (P .ensures .0) (room-left (split-of c) .0) ((group-in (s .pre .0)) .few-rows)
 
 loop-again-2 : tie.Need-loop-again-2 Inv-loop μ-loop
 loop-again-2 c =
@@ -427,7 +431,7 @@ same-length-29 c = search needs
 same-length-30 : tie.Need-same-length-30 Inv-loop μ-loop
 same-length-30 c =
     let k = c .before in
-    k .loop .inv .0 .waiting-kept ∙ sym (start-of k .pre .0 .waiting-cells)
+    k .loop .inv .0 .waiting-kept ∙ sym ((group-in (start-of k .pre .0)) .waiting-cells)
 
 same-length-31 : tie.Need-same-length-31 Inv-loop μ-loop
 same-length-31 c = search needs

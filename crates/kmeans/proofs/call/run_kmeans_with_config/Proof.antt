@@ -93,14 +93,10 @@ returns : tie.Need-returns
 returns c =
     let w = c .before .before .before .before .before .before .before .before .before .before .before .before .before .before .before .before .before .before .before .before .before .before .before .before .before .before .before .before .before .before .before .before .before .before .before .before .before .before .before .before .answer in (
       rw (c .before .before .before .before .before .before .before .before .before .before .before .before .before .before .before .before .before .before .before .before .before .before .before .before .before .before .before .before .before .before .before .before .before .before .before .before .before .before .before .before .before .before .before .before .before .before .before .before .before .before .before .before .before .before .before .before .fill .kept .0, c .before .before .before .before .before .before .before .before .before .before .before .before .before .before .before .before .before .before .before .before .before .before .before .before .before .before .before .before .before .before .before .before .before .before .before .before .before .before .before .before .before .before .before .before .before .before .before .before .before .before .before .before .clear .kept .0) at (w .ensures),
-      record {
-        training-zero = c .before .before .before .before .before .before .before .before .before .before .before .before .before .before .before .before .before .before .before .before .before .before .clear2 .ensures ∙ ap (λ (n : ℕ). replicate n zero32) (w .kept .1 .1 .1 .1 .1 .1 .1 .1 .0);
-        own-zero = c .before .before .before .before .before .before .before .before .before .before .before .before .before .before .before .before .before .before .clear3 .ensures ∙ ap (λ (n : ℕ). replicate n zero32) (w .kept .1 .1 .1 .1 .1 .1 .1 .1 .1 .0);
-        training-own-zero = c .before .before .before .before .before .before .before .before .before .before .before .before .before .before .clear4 .ensures ∙ ap (λ (n : ℕ). replicate n zero32) (w .kept .1 .1 .1 .1 .1 .1 .1 .1 .1 .1 .0);
-        distances-zero = c .before .before .before .before .before .before .before .before .before .before .clear5 .ensures ∙ ap (λ (n : ℕ). replicate n zero32) (w .kept .1 .1 .1 .1 .1 .1 .1 .1 .1 .1 .1 .0);
-        trial-labels-zero = c .before .before .before .before .before .before .fill2 .ensures ∙ ap (λ (n : ℕ). replicate n 0) (w .kept .1 .1 .1 .1 .1 .1 .1 .1 .1 .1 .1 .1 .0);
-        places-zero = c .before .before .fill3 .ensures ∙ ap (λ (n : ℕ). replicate n 0) (w .kept .1 .1 .1 .1 .1 .1 .1 .1 .1 .1 .1 .1 .1 .0);
-      },
+      (
+        (c .before .before .before .before .before .before .before .before .before .before .before .before .before .before .before .before .before .before .before .before .before .before .clear2 .ensures ∙ ap (λ (n : ℕ). replicate n zero32) (sym (c .before .before .before .before .before .before .before .before .before .before .before .before .before .before .before .before .before .before .before .before .before .before .clear2 .kept .0)), (c .before .before .before .before .before .before .before .before .before .before .before .before .before .before .before .before .before .before .clear3 .ensures ∙ ap (λ (n : ℕ). replicate n zero32) (sym (c .before .before .before .before .before .before .before .before .before .before .before .before .before .before .before .before .before .before .clear3 .kept .0)), (c .before .before .before .before .before .before .before .before .before .before .before .before .before .before .clear4 .ensures ∙ ap (λ (n : ℕ). replicate n zero32) (sym (c .before .before .before .before .before .before .before .before .before .before .before .before .before .before .clear4 .kept .0)), c .before .before .before .before .before .before .before .before .before .before .clear5 .ensures ∙ ap (λ (n : ℕ). replicate n zero32) (sym (c .before .before .before .before .before .before .before .before .before .before .clear5 .kept .0))))),
+        (c .before .before .before .before .before .before .fill2 .ensures ∙ ap (λ (n : ℕ). replicate n 0) (sym (c .before .before .before .before .before .before .fill2 .kept .0)), c .before .before .fill3 .ensures ∙ ap (λ (n : ℕ). replicate n 0) (sym (c .before .before .fill3 .kept .0))),
+      ),
     )
 
 pub run-kmeans-with-config-spec : {M : Type 1} → statement M

@@ -11,7 +11,7 @@ use Rattle.labels.proofs.pool.gather_pool.Reads as gather-pool-reads
 
 -- src/lloyd.rt:74:9
 returns : tie.Need-returns
-returns c = record { within = omega arith; below = λ i h. absurd (not-suc-le-zero h); pooled = λ e. absurd (false≢true (sym e ∙ c .if1 .taken)) }
+returns c = ((omega arith, λ i h. absurd (not-suc-le-zero h)), λ e. absurd (false≢true (sym e ∙ c .if1 .taken)))
 
 -- src/lloyd.rt:77:5
 gather-pool-requires : tie.Need-gather-pool-requires

@@ -6,7 +6,8 @@ use Rattle.sums.specs.Rows.{rowsFrom}
 use Rattle.sums.proofs.Rows.{rows-length}
 use Rattle.sums.proofs.Refusing.{both}
 use Rattle.labels.proofs.Promises.{label-below}
-use Rattle.kmeans.specs.Inside.{Summed}
+use Rattle.kmeans.proofs.Rooms.{room-in}
+use Rattle.kmeans.proofs.Summing.{Summed}
 use Rattle.kmeans.proofs.Iterations.{iteration-stops, iteration-goes}
 use native.Mathlib.Omega.{arith}
 use borrow.Author.Needs.{needs}
@@ -23,7 +24,10 @@ use Rattle.labels.proofs.nearest.assign_rows.Reads as assign-rows-reads
 
 -- src/lloyd.rt:103:9
 assign-rows-requires : tie.Need-assign-rows-requires
-assign-rows-requires c κs = search needs
+assign-rows-requires c κs =
+    let z = c .before .before .before .before .before .before .before .before .before .before .before .before in
+    let r = room-in (z .pre .0) in
+    record { some = r .some-dim; small = r .small-dim; few = r .few; value-cells = r .training-cells; centroid-cells = r .centroid-cells; distance-cells = r .distance-cells; measured = z .pre .1 .0 }
 
 -- src/lloyd.rt:104:5
 accumulate-requires : tie.Need-accumulate-requires
@@ -34,9 +38,9 @@ accumulate-requires c κs =
     let k = length (a .counts .now) in
     let n = length (a .labels .now) in
     let e : length (w .last .1 .1 .1 .1 .1 .0) ≡ n = w .kept .1 .1 .1 .1 .1 .0 in
-    let b = label-below (rowsFrom (a .dim) k (a .centroids .now)) (rowsFrom (a .dim) n (a .training .now)) (rw rows-length (z .pre .0 .some)) in (
-      (z .pre .0 .training-cells ∙ ap (λ (m : ℕ). m * a .dim) (sym e), z .pre .0 .total-cells),
-      (rw (w .ensures .labels-are) (rw (rows-length (a .dim) k (a .centroids .now)) at b), omega (arith, e, z .pre .0 .few-rows)),
+    let b = label-below (rowsFrom (a .dim) k (a .centroids .now)) (rowsFrom (a .dim) n (a .training .now)) (rw rows-length ((room-in (z .pre .0)) .some)) in (
+      ((room-in (z .pre .0)) .training-cells ∙ ap (λ (m : ℕ). m * a .dim) (sym e), (room-in (z .pre .0)) .total-cells),
+      (rw (w .ensures .0) (rw (rows-length (a .dim) k (a .centroids .now)) at b), omega (arith, e, (room-in (z .pre .0)) .few-rows)),
     )
 
 -- src/lloyd.rt:105:9
@@ -82,15 +86,15 @@ returns c =
     let w = c .before .before .before .before .before .before .before .before .before .before .before .before .before .before .before .before .assign-rows in
     let t = both _ _ (sym (c .before .is-settled .ensures) ∙ c .if1 .taken) in
     let s = both _ _ (t .0) in
-    iteration-stops _ _ _ _ _ _ _ _ _ _ _ _ (w .ensures) (summed (c .before .before .before .before .before .before .before .before)) (a .again) (a .cursor) (z .pre .1 .1) (sym (w .kept .1 .1 .1 .1 .1 .0)) (s .0, (s .1, c .before .before .all-filled .ensures (t .1)))
+    iteration-stops _ _ _ _ _ _ _ _ _ _ _ _ (w .ensures) (summed (c .before .before .before .before .before .before .before .before)) (a .again) (a .cursor) (sym (w .kept .1 .1 .1 .1 .1 .0)) (s .0, (s .1, c .before .before .all-filled .ensures (t .1)))
 
 -- src/lloyd.rt:112:9
 pool-for-requires : tie.Need-pool-for-requires
 pool-for-requires c κs =
     let z = c .before .before .before .before .before .before .before .before .before .before .before .before .before .before .before .before .before .before .before .before .before .before .before .before .before .before .before .before .before .before .before in
     let w = c .before .before .before .before .before .before .before .before .before .before .before .before .before .before .before .before .before .before .assign-rows in
-    let f : length (w .last .1 .1 .1 .1 .1 .1 .0) ≡ length (z .args .labels .now) = w .kept .1 .1 .1 .1 .1 .1 .0 ∙ z .pre .0 .distance-cells in
-    (omega (arith, z .pre .0 .at-cells, z .pre .0 .some), (omega (arith, f, z .pre .0 .few-rows), z .pre .0 .some-block))
+    let f : length (w .last .1 .1 .1 .1 .1 .1 .0) ≡ length (z .args .labels .now) = w .kept .1 .1 .1 .1 .1 .1 .0 ∙ (room-in (z .pre .0)) .distance-cells in
+    (omega (arith, (room-in (z .pre .0)) .at-cells, (room-in (z .pre .0)) .some), (omega (arith, f, (room-in (z .pre .0)) .few-rows), (room-in (z .pre .0)) .some-block))
 
 -- src/lloyd.rt:120:9
 slice-reshare-prefix-update-centroids : tie.Need-slice-reshare-prefix-update-centroids
@@ -100,7 +104,7 @@ slice-reshare-prefix-update-centroids c = search needs
 slice-aggregate-update-centroids : tie.Need-slice-aggregate-update-centroids
 slice-aggregate-update-centroids c =
     let p = c .before .before .before .before .before .before .pool-for in
-    sym (length-take-le (p .result) (p .last .1 .1 .1 .0) (p .ensures .within))
+    sym (length-take-le (p .result) (p .last .1 .1 .1 .0) (p .ensures .0 .0))
 
 -- src/lloyd.rt:113:9
 update-centroids-requires : tie.Need-update-centroids-requires
@@ -111,15 +115,10 @@ update-centroids-requires c κs =
     let u = c .before .before .before .before .before .before .before .before .before .before .before .before .before .before .before .before .before .accumulate in
     let w = c .before .before .before .before .before .before .before .before .before .before .before .before .before .before .before .before .before .before .before .before .before .before .before .before .before .assign-rows in
     let e : length (u .last .1 .1 .1 .0) ≡ length (a .counts .now) = u .kept .1 .1 .1 .0 in
-    let f : length (w .last .1 .1 .1 .1 .1 .1 .0) ≡ length (a .labels .now) = w .kept .1 .1 .1 .1 .1 .1 .0 ∙ z .pre .0 .distance-cells in (
-      (rw e (z .pre .0 .centroid-cells), u .kept .1 .1 .1 .1 .0 ∙ rw e (z .pre .0 .total-cells)),
+    let f : length (w .last .1 .1 .1 .1 .1 .1 .0) ≡ length (a .labels .now) = w .kept .1 .1 .1 .1 .1 .1 .0 ∙ (room-in (z .pre .0)) .distance-cells in (
+      (rw e ((room-in (z .pre .0)) .centroid-cells), u .kept .1 .1 .1 .1 .0 ∙ rw e ((room-in (z .pre .0)) .total-cells)),
       (
-        record {
-          cells = z .pre .0 .training-cells;
-          some = z .pre .0 .some-rows;
-          few = omega (arith, z .pre .0 .few-rows);
-          positions = rw f at (p .ensures .below);
-        },
+        ((room-in (z .pre .0)) .training-cells, (((room-in (z .pre .0)) .some-rows, omega (arith, (room-in (z .pre .0)) .few-rows)), rw f at (p .ensures .0 .1))),
         z .pre .1 .1,
       ),
     )
@@ -158,7 +157,7 @@ returns-2 c =
     let w = c .before .before .before .before .before .before .before .before .before .before .before .before .before .before .before .before .before .before .before .before .before .before .before .before .before .before .before .before .assign-rows in
     let e : length (u .last .1 .1 .1 .0) ≡ length (a .counts .now) = u .kept .1 .1 .1 .0 in
     iteration-goes _ _ _ _ _ _ _ _ _ _ _ _ (w .ensures) (summed (c .before .before .before .before .before .before .before .before .before .before .before .before .before .before .before .before .before .before .before .before)) (a .again) (a .cursor) (c .before .before .before .before .before .before .before .before .before .before .before .before .before .before .all-filled .result) (p .result) (p .last .1 .1 .1 .0) _ (c .before .before .update-centroids .result)
-    (c .before .before .before .before .before .before .before .before .before .before .before .before .before .before .all-filled .ensures) (rw (z .pre .0 .at-cells) at (p .ensures)) e (rw e at (c .before .before .update-centroids .ensures))
+    (c .before .before .before .before .before .before .before .before .before .before .before .before .before .before .all-filled .ensures) (rw ((room-in (z .pre .0)) .at-cells) at (p .ensures)) e (rw e at (c .before .before .update-centroids .ensures))
 
 pub run-iteration-spec : {M : Type 1} → statement M
 run-iteration-spec =

@@ -25,7 +25,7 @@ compute-objective-requires c κs =
     let w = c .before .before .before .before .before .assign-rows in
     let e = w .kept .1 .1 .1 .1 .1 .0 in
     let b = label-below (rowsFrom (a .dim) (a .k) (a .centroids .now)) (rowsFrom (a .dim) (length (a .labels .now)) (a .values .now)) (rw rows-length (z .pre .1)) in
-    (z .pre .0 .value-cells ∙ ap (λ (n : ℕ). n * a .dim) (sym e), (z .pre .0 .centroid-cells, rw (w .ensures .labels-are) (rw (rows-length (a .dim) (a .k) (a .centroids .now)) at b)))
+    (z .pre .0 .value-cells ∙ ap (λ (n : ℕ). n * a .dim) (sym e), (z .pre .0 .centroid-cells, rw (w .ensures .0) (rw (rows-length (a .dim) (a .k) (a .centroids .now)) at b)))
 
 -- src/restart.rt:68:1
 same-length : tie.Need-same-length
@@ -39,7 +39,7 @@ same-length-2 c = search needs
 returns : tie.Need-returns
 returns c =
     let w = c .before .before .before .before .before .before .assign-rows in
-    record { labels-are = w .ensures .labels-are; objective-is = c .compute-objective .ensures ∙ rw (w .kept .1 .1 .1 .1 .1 .0, w .ensures .labels-are) }
+    (w .ensures .0, c .compute-objective .ensures ∙ rw (w .kept .1 .1 .1 .1 .1 .0, w .ensures .0))
 
 pub finish-restart-spec : {M : Type 1} → statement M
 finish-restart-spec =

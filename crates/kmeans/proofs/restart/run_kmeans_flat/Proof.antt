@@ -10,6 +10,7 @@ use Rattle.sums.proofs.Rows.{rows-length}
 use Rattle.labels.specs.Inside.{normsOf}
 use Rattle.sums.proofs.Fronts.{Front, front, front-back}
 use Rattle.kmeans.proofs.Selects.{target-enough, target-within}
+use Rattle.kmeans.proofs.Rooms.{workspace-in, spaces-out}
 use Rattle.kmeans.proofs.Restarts.{spaces-of, ran}
 use native.Mathlib.Omega.{arith}
 use borrow.Author.Needs.{needs}
@@ -36,39 +37,39 @@ enough : (c : tie.After-target) → c .before .before .before .before .before .b
 enough c = let a = c .before .before .before .before .before .before .before .before .before .before .before .before .args in rw (c .target .ensures) (target-enough (a .k) (a .config .«max_points_per_centroid») (length (a .labels .now)))
 
 within : (c : tie.After-target) → c .target .result ≤ length (c .before .before .before .before .before .before .before .before .before .before .before .before .args .labels .now)
-within c = let a = c .before .before .before .before .before .before .before .before .before .before .before .before .args in rw (c .target .ensures) (target-within (a .k) (a .config .«max_points_per_centroid») (length (a .labels .now)) (c .before .before .before .before .before .before .before .before .before .before .before .before .pre .0 .enough))
+within c = let a = c .before .before .before .before .before .before .before .before .before .before .before .before .args in rw (c .target .ensures) (target-within (a .k) (a .config .«max_points_per_centroid») (length (a .labels .now)) ((workspace-in (c .before .before .before .before .before .before .before .before .before .before .before .before .pre .0)) .enough))
 
 -- the cells that they take
 abbrev cellsOf : tie.After-target → ℕ
 cellsOf c = c .target .result * c .before .before .before .before .before .before .before .before .before .before .before .before .args .dim
 
 cells-fit : (c : tie.After-target) → cellsOf c ≤ length (c .before .before .before .before .before .before .before .before .before .before .before .before .args .training .now)
-cells-fit c = rw (c .before .before .before .before .before .before .before .before .before .before .before .before .pre .0 .training-cells) (mul-le-mul-right (c .before .before .before .before .before .before .before .before .before .before .before .before .args .dim) (within c))
+cells-fit c = rw ((workspace-in (c .before .before .before .before .before .before .before .before .before .before .before .before .pre .0)) .training-cells) (mul-le-mul-right (c .before .before .before .before .before .before .before .before .before .before .before .before .args .dim) (within c))
 
 cells-few : (c : tie.After-target) → cellsOf c ≤ 262144
-cells-few c = let few : c .target .result ≤ 4096 = omega (arith, within c, c .before .before .before .before .before .before .before .before .before .before .before .before .pre .0 .few-rows) in mul-le-mul few (c .before .before .before .before .before .before .before .before .before .before .before .before .pre .0 .small-dim)
+cells-few c = let few : c .target .result ≤ 4096 = omega (arith, within c, (workspace-in (c .before .before .before .before .before .before .before .before .before .before .before .before .pre .0)) .few-rows) in mul-le-mul few ((workspace-in (c .before .before .before .before .before .before .before .before .before .before .before .before .pre .0)) .small-dim)
 
 -- as long as the parts lent are
 training-lent : (c : tie.After-target) → length (take (cellsOf c) (c .before .before .before .before .before .before .before .before .before .before .before .before .args .training .now)) ≡ cellsOf c
 training-lent c = length-take-le (cellsOf c) (c .before .before .before .before .before .before .before .before .before .before .before .before .args .training .now) (cells-fit c)
 
 own-fits : (c : tie.After-target) → c .target .result ≤ length (c .before .before .before .before .before .before .before .before .before .before .before .before .args .training-own .now)
-own-fits c = rw (c .before .before .before .before .before .before .before .before .before .before .before .before .pre .0 .training-own-cells) (within c)
+own-fits c = rw ((workspace-in (c .before .before .before .before .before .before .before .before .before .before .before .before .pre .0)) .training-own-cells) (within c)
 
 own-lent : (c : tie.After-target) → length (take (c .target .result) (c .before .before .before .before .before .before .before .before .before .before .before .before .args .training-own .now)) ≡ c .target .result
 own-lent c = length-take-le (c .target .result) (c .before .before .before .before .before .before .before .before .before .before .before .before .args .training-own .now) (own-fits c)
 
 places-fit : (c : tie.After-select-training-indices) → c .before .before .target .result ≤ length (c .select-training-indices .last .1 .1 .0)
-places-fit c = rw (c .select-training-indices .kept .1 .1 .0, c .before .before .before .before .before .before .before .before .before .before .before .before .before .before .pre .0 .place-cells) (within (c .before .before))
+places-fit c = rw (c .select-training-indices .kept .1 .1 .0, (workspace-in (c .before .before .before .before .before .before .before .before .before .before .before .before .before .before .pre .0)) .place-cells) (within (c .before .before))
 
 places-lent : (c : tie.After-select-training-indices) → length (take (c .before .before .target .result) (c .select-training-indices .last .1 .1 .0)) ≡ c .before .before .target .result
 places-lent c = length-take-le (c .before .before .target .result) (c .select-training-indices .last .1 .1 .0) (places-fit c)
 
 counts-lent : (z : tie.Start) → length {A = ℕ} (take (z .args .k) (replicate 64 0)) ≡ z .args .k
-counts-lent z = length-take-le (z .args .k) (replicate 64 0) (z .pre .0 .few)
+counts-lent z = length-take-le (z .args .k) (replicate 64 0) ((workspace-in (z .pre .0)) .few)
 
 width-fits : (z : tie.Start) → z .args .k * z .args .dim ≤ 4096
-width-fits z = mul-le-mul (z .pre .0 .few) (z .pre .0 .small-dim)
+width-fits z = mul-le-mul ((workspace-in (z .pre .0)) .few) ((workspace-in (z .pre .0)) .small-dim)
 
 width-lent : (z : tie.Start) → length (take (z .args .k * z .args .dim) (replicate 4096 (ofBits binary32 0))) ≡ z .args .k * z .args .dim
 width-lent z = length-take-le (z .args .k * z .args .dim) (replicate 4096 (ofBits binary32 0)) (width-fits z)
@@ -84,7 +85,7 @@ own-holds c = front refl (c .compute-norms2 .kept .1 .1 .0 ∙ own-lent (c .befo
 select-training-indices-requires : tie.Need-select-training-indices-requires
 select-training-indices-requires c κs =
     let z = c .before .before .before .before .before .before .before .before .before .before .before .before .before in
-    (z .pre .1, (rw (z .pre .0 .place-cells) (within (c .before)), omega (arith, z .pre .0 .place-cells, z .pre .0 .few-rows)))
+    (z .pre .1, (rw ((workspace-in (z .pre .0)) .place-cells) (within (c .before)), omega (arith, (workspace-in (z .pre .0)) .place-cells, (workspace-in (z .pre .0)) .few-rows)))
 
 -- src/restart.rt:311:17
 mul-cells : tie.Need-mul-cells
@@ -112,10 +113,10 @@ gather-rows-requires c κs =
     let z = c .before .before .before .before .before .before .before .before .before .before .before .before .before .before .before .before .before .before in
     let t = c .before .before .before .before .before .before in
     let p = c .before .before .before .before in (
-      z .pre .0 .value-cells,
+      (workspace-in (z .pre .0)) .value-cells,
       (
         training-lent t ∙ ap (λ (n : ℕ). n * z .args .dim) (sym (places-lent p)),
-        (rw (z .pre .0 .place-cells) at (p .select-training-indices .ensures .below), omega (arith, places-lent p, within t, z .pre .0 .few-rows)),
+        (rw ((workspace-in (z .pre .0)) .place-cells) at (p .select-training-indices .ensures .0), omega (arith, places-lent p, within t, (workspace-in (z .pre .0)) .few-rows)),
       ),
     )
 
@@ -123,7 +124,7 @@ gather-rows-requires c κs =
 compute-norms-requires : tie.Need-compute-norms-requires
 compute-norms-requires c κs =
     let z = c .before .before .before .before .before .before .before .before .before .before .before .before .before .before .before .before .before .before .before .before .before .before in
-    z .pre .0 .value-cells ∙ ap (λ (n : ℕ). n * z .args .dim) (sym (z .pre .0 .own-cells))
+    (workspace-in (z .pre .0)) .value-cells ∙ ap (λ (n : ℕ). n * z .args .dim) (sym ((workspace-in (z .pre .0)) .own-cells))
 
 -- src/restart.rt:314:28
 slice-reshare-prefix-compute-norms : tie.Need-slice-reshare-prefix-compute-norms
@@ -175,7 +176,7 @@ slice-aggregate-run-restarts-3 c = sym (places-lent (c .before .before .before .
 
 -- src/restart.rt:334:9
 array-borrow-prefix-counts : tie.Need-array-borrow-prefix-counts
-array-borrow-prefix-counts c = c .before .before .before .before .before .before .before .before .before .before .before .before .before .before .before .before .before .before .before .before .before .before .before .before .before .before .before .before .before .before .before .before .before .before .before .before .before .before .pre .0 .few
+array-borrow-prefix-counts c = (workspace-in (c .before .before .before .before .before .before .before .before .before .before .before .before .before .before .before .before .before .before .before .before .before .before .before .before .before .before .before .before .before .before .before .before .before .before .before .before .before .before .pre .0)) .few
 
 -- src/restart.rt:334:9
 slice-aggregate-run-restarts-4 : tie.Need-slice-aggregate-run-restarts-4
@@ -191,7 +192,7 @@ slice-aggregate-run-restarts-5 c = sym (width-lent (c .before .before .before .b
 
 -- src/restart.rt:336:9
 array-borrow-prefix-at : tie.Need-array-borrow-prefix-at
-array-borrow-prefix-at c = c .before .before .before .before .before .before .before .before .before .before .before .before .before .before .before .before .before .before .before .before .before .before .before .before .before .before .before .before .before .before .before .before .before .before .before .before .before .before .before .before .pre .0 .few
+array-borrow-prefix-at c = (workspace-in (c .before .before .before .before .before .before .before .before .before .before .before .before .before .before .before .before .before .before .before .before .before .before .before .before .before .before .before .before .before .before .before .before .before .before .before .before .before .before .before .before .pre .0)) .few
 
 -- src/restart.rt:336:9
 slice-aggregate-run-restarts-6 : tie.Need-slice-aggregate-run-restarts-6
@@ -216,15 +217,15 @@ run-restarts-requires c κs =
     let front-own = own-holds (c .before .before .before .before .before .before .before .before .before .before .before .before .before .before) in
     let front-training = training-holds (c .before .before .before .before .before .before .before .before .before .before .before .before .before .before .before .before .before .before .before .before .before .before .before) in
     let wide = width-lent z ∙ ap (λ (n : ℕ). n * a .dim) (sym (counts-lent z)) in (
-      spaces-of (z .pre .0) (t .target .result) _ _ _ _ _ (enough t) (within t) (counts-lent z) (front-own .long) (own .kept .1 .1 .0) (front-training .long) (places-lent (c .before .before .before .before .before .before .before .before .before .before .before .before .before .before .before .before .before .before .before .before .before .before .before .before .before .before .before .before)),
+      spaces-out (spaces-of (workspace-in (z .pre .0)) (t .target .result) _ _ _ _ _ (enough t) (within t) (counts-lent z) (front-own .long) (own .kept .1 .1 .0) (front-training .long) (places-lent (c .before .before .before .before .before .before .before .before .before .before .before .before .before .before .before .before .before .before .before .before .before .before .before .before .before .before .before .before))),
       (
-        (z .pre .0 .some-block, (wide, (refl, wide))),
+        ((workspace-in (z .pre .0)) .some-block, (wide, (refl, wide))),
         (
           (
-            own .ensures ∙ ap (λ (n : ℕ). normsOf (rowsFrom (a .dim) n (a .values .now))) (z .pre .0 .own-cells),
+            own .ensures ∙ ap (λ (n : ℕ). normsOf (rowsFrom (a .dim) n (a .values .now))) ((workspace-in (z .pre .0)) .own-cells),
             front-own .is ∙ (norms .ensures ∙ ap (λ (n : ℕ). normsOf (rowsFrom (a .dim) n (take (cellsOf t) (c .before .before .before .before .before .before .before .before .before .before .before .before .before .before .before .before .before .before .before .before .before .before .before .gather-rows .last .1 .1 .1 .1 .0 ++ drop (cellsOf t) (a .training .now))))) (own-lent t ∙ sym (front-own .long))),
           ),
-          c .before .before .before .before .before .before .before .before .before .before .before .before .before .before .before .before .before .before .before .before .before .before .before .before .before .before .before .before .select-training-indices .ensures .inside,
+          c .before .before .before .before .before .before .before .before .before .before .before .before .before .before .before .before .before .before .before .before .before .before .before .before .before .before .before .before .select-training-indices .ensures .1 .inside,
         ),
       ),
     )
@@ -283,7 +284,7 @@ returns c =
     let gathered = ap (λ (n : ℕ). rowsFrom (a .dim) n (take (cellsOf t) (g .last .1 .1 .1 .1 .0 ++ drop (cellsOf t) (a .training .now)))) (front-own .long ∙ sym (places-lent p))
     ∙ (ap (λ (l : List Float). rowsFrom (a .dim) (length (take (t .target .result) (p .select-training-indices .last .1 .1 .0))) l) (front-training .is) ∙ g .ensures) in
     ran _ (a .config) (a .k) (a .dim) (t .target .result) (length (a .labels .now)) _ _ (a .cursor) _ _ (p .select-training-indices .last .1 .1 .0) _ _ (rows-length (a .dim) (length (a .labels .now)) (a .values .now)) (t .target .ensures)
-    (rw (z .pre .0 .place-cells) at (p .select-training-indices .ensures)) gathered (rw (counts-lent z) at (c .before .before .before .before .before .before .before .before .before .before .before .before .before .before .run-restarts .ensures))
+    (rw ((workspace-in (z .pre .0)) .place-cells) at (p .select-training-indices .ensures)) gathered (rw (counts-lent z) at (c .before .before .before .before .before .before .before .before .before .before .before .before .before .before .run-restarts .ensures))
 
 pub run-kmeans-flat-spec : {M : Type 1} → statement M
 run-kmeans-flat-spec =

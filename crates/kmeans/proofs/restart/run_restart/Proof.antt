@@ -4,6 +4,7 @@ use lib.ListN.{length, take}
 use lib.Seq.{length-take-le}
 use Rattle.sums.proofs.Rows.{rows-length}
 use Rattle.sums.proofs.Belows.{below-take}
+use Rattle.kmeans.proofs.Rooms.{room-in}
 use Rattle.kmeans.proofs.Restarts.{restarted}
 use native.Mathlib.Omega.{arith}
 use borrow.Author.Needs.{needs}
@@ -37,12 +38,12 @@ gather-rows-requires c κs =
     let z = c .before .before .before .before .before .before .before .before .before .before .before .before .before .before .before .before in
     let a = z .args in
     let p = c .before .before .before .before .pick in (
-      z .pre .0 .training-cells ∙ ap (λ (n : ℕ). n * a .dim) (sym (z .pre .1 .1 .1 .0)),
+      (room-in (z .pre .0)) .training-cells ∙ ap (λ (n : ℕ). n * a .dim) (sym (z .pre .1 .1 .1 .0)),
       (
-        z .pre .0 .centroid-cells ∙ ap (λ (n : ℕ). n * a .dim) (sym (picked (c .before .before .before .before))),
+        (room-in (z .pre .0)) .centroid-cells ∙ ap (λ (n : ℕ). n * a .dim) (sym (picked (c .before .before .before .before))),
         (
-          below-take (length (a .places .now)) (length (a .counts .now)) (p .last .1 .1 .0) (p .ensures .below),
-          omega (arith, picked (c .before .before .before .before), z .pre .0 .few),
+          below-take (length (a .places .now)) (length (a .counts .now)) (p .last .1 .1 .0) (p .ensures .0),
+          omega (arith, picked (c .before .before .before .before), (room-in (z .pre .0)) .few),
         ),
       ),
     )
@@ -51,7 +52,7 @@ gather-rows-requires c κs =
 run-lloyd-iterations-requires : tie.Need-run-lloyd-iterations-requires
 run-lloyd-iterations-requires c κs =
     let z = c .before .before .before .before .before .before .before .before .before .before .before .before .before .before .before .before .before .before .before .before .before .before .before .before .before in
-    rw (c .before .before .before .before .before .before .before .before .gather-rows .kept .1 .1 .1 .1 .0) (z .pre .0, (z .pre .1 .0, c .before .before .before .before .before .before .before .before .before .before .before .before .before .pick .ensures .inside))
+    rw (c .before .before .before .before .before .before .before .before .gather-rows .kept .1 .1 .1 .1 .0) (z .pre .0, (z .pre .1 .0, c .before .before .before .before .before .before .before .before .before .before .before .before .before .pick .ensures .1 .inside))
 
 -- src/restart.rt:25:1
 same-length : tie.Need-same-length

@@ -3,6 +3,7 @@ use Prim.Native.Nat.{ℕ, _-_, _*_}
 use mathlib.Core.Path.{_≡_, refl, sym, ap, _∙_}
 use lib.ListN.{length}
 use Rattle.sums.specs.Rows.{rowsFrom}
+use Rattle.kmeans.proofs.Rooms.{spaces-in, spaces-out}
 use Rattle.kmeans.proofs.Restarts.{Sizes, Trying, trying-start, trying-step, trying-end, still-spaces, still-work}
 use borrow.Author.Needs.{needs}
 use native.Mathlib.Omega.{arith}
@@ -64,7 +65,7 @@ try-restart-requires c κs =
     let z = c .before .before .before .before .before .before .before .before .before .before .before .before .before .before .before .before .before .before .before .before .before .before .before .before .before .before .before .before .before .before .before .before .before .before .before .before .before .before .before .before .before .before .before .before .before .before .before .before .before .before .before .before .before in
     let a = z .args in
     let s = since (c .before .before .before .before .before .before .before .before .before .before .before) in (
-      still-spaces s (z .pre .0),
+      spaces-out (still-spaces s (spaces-in (z .pre .0))),
       (
         still-work s (a .dim) (a .config .«decode_block_size») (z .pre .1 .0),
         ((z .pre .1 .1 .0 .0 ∙ ap (λ (n : ℕ). normsOf (rowsFrom (a .dim) n (a .values .now))) (sym (s .l-labels)), z .pre .1 .1 .0 .1), c .before .before .before .before .before .before .before .before .before .before .before .loop .inv .1 .inside),

@@ -1,9 +1,10 @@
 use mathlib.Core.List.{_++_}
 use Rattle.sums.proofs.Fronts.{front-back}
-use Prim.Native.Nat.{ℕ, _*_}
+use Prim.Native.Nat.{ℕ, _*_, _≤_}
 use mathlib.Core.Path.{_≡_, refl, sym, ap, _∙_}
 use lib.ListN.{length, take, drop}
 use lib.Seq.{length-take-le}
+use Rattle.kmeans.proofs.Rooms.{spaces-in, room-out}
 use Rattle.kmeans.proofs.Restarts.{trained, tried-better, tried-kept}
 use native.Mathlib.Omega.{arith}
 use borrow.Author.Needs.{needs}
@@ -16,16 +17,23 @@ use Rattle.kmeans.proofs.restart.finish_restart.Reads as finish-restart
 use Rattle.kmeans.proofs.restart.run_restart.Reads as run-restart-reads
 use Rattle.sums.proofs.cells.copy.Reads as copy-reads
 
+-- there are at least as many labels and distances as training rows
+labels-fit : (z : tie.Start) → length (z .args .training-own .now) ≤ length (z .args .trial-labels .now)
+labels-fit z = let s = spaces-in (z .pre .0) in omega (arith, s .within, s .trial-cells)
+
+distances-fit : (z : tie.Start) → length (z .args .training-own .now) ≤ length (z .args .distances .now)
+distances-fit z = let s = spaces-in (z .pre .0) in omega (arith, s .within, s .distance-cells)
+
 -- src/restart.rt:177:9
 slice-relend-prefix-run-restart : tie.Need-slice-relend-prefix-run-restart
-slice-relend-prefix-run-restart c = search needs
+slice-relend-prefix-run-restart c = labels-fit (c .before .before .before .before .before .before .before .before .before .before .before .before .before .before .before .before .before)
 
 -- the parts lent are as long as there are training rows
 labels-lent : (z : tie.Start) → length (take (length (z .args .training-own .now)) (z .args .trial-labels .now)) ≡ length (z .args .training-own .now)
-labels-lent z = length-take-le _ (z .args .trial-labels .now) (omega (arith, z .pre .0 .within, z .pre .0 .trial-cells))
+labels-lent z = length-take-le _ (z .args .trial-labels .now) (labels-fit z)
 
 distances-lent : (z : tie.Start) → length (take (length (z .args .training-own .now)) (z .args .distances .now)) ≡ length (z .args .training-own .now)
-distances-lent z = length-take-le _ (z .args .distances .now) (omega (arith, z .pre .0 .within, z .pre .0 .distance-cells))
+distances-lent z = length-take-le _ (z .args .distances .now) (distances-fit z)
 
 -- src/restart.rt:177:9
 slice-aggregate-run-restart : tie.Need-slice-aggregate-run-restart
@@ -33,7 +41,7 @@ slice-aggregate-run-restart c = sym (labels-lent (c .before .before .before .bef
 
 -- src/restart.rt:178:9
 slice-relend-prefix-run-restart-2 : tie.Need-slice-relend-prefix-run-restart-2
-slice-relend-prefix-run-restart-2 c = search needs
+slice-relend-prefix-run-restart-2 c = distances-fit (c .before .before .before .before .before .before .before .before .before .before .before .before .before .before .before .before .before .before)
 
 -- src/restart.rt:178:9
 slice-aggregate-run-restart-2 : tie.Need-slice-aggregate-run-restart-2
@@ -43,26 +51,26 @@ slice-aggregate-run-restart-2 c = sym (distances-lent (c .before .before .before
 run-restart-requires : tie.Need-run-restart-requires
 run-restart-requires c κs =
     let z = c .before .before .before .before .before .before .before .before .before .before .before .before .before .before .before .before .before .before .before .before .before .before in
-    let s = z .pre .0 in
+    let s = spaces-in (z .pre .0) in
     let q = z .pre .1 .0 in
-    rw (labels-lent z, distances-lent z) (trained s _ _ _ _ (q .0) (q .1 .1 .1) (q .1 .0) (q .1 .1 .0), (z .pre .1 .1 .0 .1, (z .pre .1 .1 .1, (s .place-cells, s .enough))))
+    rw (labels-lent z, distances-lent z) (room-out (trained s _ _ _ _ (q .0) (q .1 .1 .1) (q .1 .0) (q .1 .1 .0)), (z .pre .1 .1 .0 .1, (z .pre .1 .1 .1, (s .place-cells, s .enough))))
 
 -- the slices with the parts lent back in front
 labels-back : (c : tie.After-run-restart) → let a = c .before .before .before .before .before .before .before .before .before .before .before .before .before .before .before .before .before .before .before .before .before .before .before .args in length (c .run-restart .last .1 .1 .1 .1 .1 .1 .1 .1 .1 .0 ++ drop (length (a .training-own .now)) (a .trial-labels .now)) ≡ length (a .labels .now)
 labels-back c =
     let z = c .before .before .before .before .before .before .before .before .before .before .before .before .before .before .before .before .before .before .before .before .before .before .before in
-    front-back (length (z .args .training-own .now)) (z .args .trial-labels .now) (c .run-restart .last .1 .1 .1 .1 .1 .1 .1 .1 .1 .0) (omega (arith, z .pre .0 .within, z .pre .0 .trial-cells)) (c .run-restart .kept .1 .1 .1 .1 .1 .1 .1 .1 .1 .0) ∙ z .pre .0 .trial-cells
+    front-back (length (z .args .training-own .now)) (z .args .trial-labels .now) (c .run-restart .last .1 .1 .1 .1 .1 .1 .1 .1 .1 .0) (labels-fit z) (c .run-restart .kept .1 .1 .1 .1 .1 .1 .1 .1 .1 .0) ∙ (spaces-in (z .pre .0)) .trial-cells
 
 distances-back : (c : tie.After-run-restart) → let a = c .before .before .before .before .before .before .before .before .before .before .before .before .before .before .before .before .before .before .before .before .before .before .before .args in length (c .run-restart .last .1 .1 .1 .1 .1 .1 .1 .1 .1 .1 .0 ++ drop (length (a .training-own .now)) (a .distances .now)) ≡ length (a .labels .now)
 distances-back c =
     let z = c .before .before .before .before .before .before .before .before .before .before .before .before .before .before .before .before .before .before .before .before .before .before .before in
-    front-back (length (z .args .training-own .now)) (z .args .distances .now) (c .run-restart .last .1 .1 .1 .1 .1 .1 .1 .1 .1 .1 .0) (omega (arith, z .pre .0 .within, z .pre .0 .distance-cells)) (c .run-restart .kept .1 .1 .1 .1 .1 .1 .1 .1 .1 .1 .0) ∙ z .pre .0 .distance-cells
+    front-back (length (z .args .training-own .now)) (z .args .distances .now) (c .run-restart .last .1 .1 .1 .1 .1 .1 .1 .1 .1 .1 .0) (distances-fit z) (c .run-restart .kept .1 .1 .1 .1 .1 .1 .1 .1 .1 .1 .0) ∙ (spaces-in (z .pre .0)) .distance-cells
 
 -- src/restart.rt:183:9
 finish-restart-requires : tie.Need-finish-restart-requires
 finish-restart-requires c κs =
     let z = c .before .before .before .before .before .before .before .before .before .before .before .before .before .before .before .before .before .before .before .before .before .before .before .before .before .before .before .before .before .before .before .before .before .before .before .before .before .before .before .before in
-    let s = z .pre .0 in
+    let s = spaces-in (z .pre .0) in
     rw (labels-back (c .before .before .before .before .before .before .before .before .before .before .before .before .before .before .before .before .before), distances-back (c .before .before .before .before .before .before .before .before .before .before .before .before .before .before .before .before .before)) (
       record {
         some = s .some-dim;
@@ -84,7 +92,7 @@ copy-cells-requires c κs = sym (c .before .before .before .before .before .befo
 copy-requires : tie.Need-copy-requires
 copy-requires c κs =
     let z = c .before .before .before .before .before .before .before .before .before .before .before .before .before .before .before .before .before .before .before .before .before .before .before .before .before .before .before .before .before .before .before .before .before .before .before .before .before .before .before .before .before .before .before .before .before .before .before .before .before .before .before .before .before .before in
-    z .pre .0 .centroid-cells ∙ sym (c .before .before .before .before .before .before .before .before .before .before .before .before .before .before .before .before .before .before .before .before .before .before .before .before .before .before .before .before .before .before .before .run-restart .kept .1 .1 .1 .1 .1 .1 .1 .1 .0 ∙ z .pre .1 .0 .1 .1 .1)
+    (spaces-in (z .pre .0)) .centroid-cells ∙ sym (c .before .before .before .before .before .before .before .before .before .before .before .before .before .before .before .before .before .before .before .before .before .before .before .before .before .before .before .before .before .before .before .run-restart .kept .1 .1 .1 .1 .1 .1 .1 .1 .0 ∙ z .pre .1 .0 .1 .1 .1)
 
 -- src/restart.rt:187:9
 same-length : tie.Need-same-length

@@ -34,8 +34,8 @@ copy-row-requires : tie.Need-copy-row-requires
 copy-row-requires c κs =
     let z = c .before .before .before .before .before .before .before .before .before .before in
     let a = z .args in
-    let p = z .pre .1 .0 .positions (a .state .used) (c .before .before .before .if2 .taken) in
-    (z .pre .0 .0, rw (c .before .row-in-training .ensures, z .pre .1 .0 .cells) (room (getD (a .pool .now) (a .state .used) 0) (a .rows) (a .dim) p))
+    let p = z .pre .1 .0 .1 .1 (a .state .used) (c .before .before .before .if2 .taken) in
+    (z .pre .0 .0, rw (c .before .row-in-training .ensures, z .pre .1 .0 .0) (room (getD (a .pool .now) (a .state .used) 0) (a .rows) (a .dim) p))
 
 add-t22 : tie.Need-add-t22
 add-t22 c = search needs
@@ -48,7 +48,7 @@ returns-2 c =
     let z = c .before .before .before .before .before .before .before .before .before .before .before .before .before .before in
     let a = z .args in
     let t = c .before .before .before .before .before .before .before .if2 .taken in
-    let p = z .pre .1 .0 .positions (a .state .used) t in
+    let p = z .pre .1 .0 .1 .1 (a .state .used) t in
     let e : a .count ≡ 0 = omega (arith, c .before .before .before .before .before .before .before .before .if1 .left) in
     rw e (turned-pool _ _ _ _ (a .state) _ t (z .pre .1 .1)
     (c .before .before .before .copy-row .ensures ∙ rw (c .before .before .before .before .before .row-in-training .ensures) (sym (row-at (a .dim) (a .rows) (a .training .now) (getD (a .pool .now) (a .state .used) 0) [] p))))
@@ -65,7 +65,7 @@ rem-position c = search needs
 cast-t29 : tie.Need-cast-t29
 cast-t29 c =
     let z = c .before .before .before .before .before .before .before .before .before in
-    omega (arith, mod-lt (c .wide .result) {m = z .args .rows} (z .pre .1 .0 .some), z .pre .1 .0 .few)
+    omega (arith, mod-lt (c .wide .result) {m = z .args .rows} (z .pre .1 .0 .1 .0 .0), z .pre .1 .0 .1 .0 .1)
 
 row-in-training-requires-2 : tie.Need-row-in-training-requires-2
 row-in-training-requires-2 c κs = search needs
@@ -75,7 +75,7 @@ copy-row-requires-2 c κs =
     let z = c .before .before .before .before .before .before .before .before .before .before .before in
     let a = z .args in
     let w = c .before .before .wide .result in
-    (z .pre .0 .0, rw (c .before .row-in-training2 .ensures, z .pre .1 .0 .cells) (room (w % a .rows) (a .rows) (a .dim) (mod-lt w {m = a .rows} (z .pre .1 .0 .some))))
+    (z .pre .0 .0, rw (c .before .row-in-training2 .ensures, z .pre .1 .0 .0) (room (w % a .rows) (a .rows) (a .dim) (mod-lt w {m = a .rows} (z .pre .1 .0 .1 .0 .0))))
 
 same-length-3 : tie.Need-same-length-3
 same-length-3 c = search needs
@@ -87,7 +87,7 @@ returns-3 c =
     let d = c .before .before .before .before .before .before .before .draw in
     let w = c .before .before .before .before .before .before .wide in
     let e : a .count ≡ 0 = omega (arith, c .before .before .before .before .before .before .before .before .before .if1 .left) in
-    let p = mod-lt (w .result) {m = a .rows} (z .pre .1 .0 .some) in
+    let p = mod-lt (w .result) {m = a .rows} (z .pre .1 .0 .1 .0 .0) in
     rw e (turned-drawn _ _ _ _ (a .state) _ (c .before .before .before .before .before .before .before .before .if2 .left) (d .result) (d .ensures)
     (c .before .before .before .copy-row2 .ensures ∙ rw (c .before .before .before .before .before .row-in-training2 .ensures, rows-length, ← w .ensures) (sym (row-at (a .dim) (a .rows) (a .training .now) (w .result % a .rows) [] p))))
 

@@ -106,7 +106,7 @@ returns-2 c =
     let e = c .before .before .before .before .before .before .before .before .before .before in
     let a = e .before .before .before .before .before .before .before .before .before .args in
     gives-labels (a .rows) (a .dim) (a .k) (a .values .now) (a .centroids .now) (length (a .labels .now)) _ (sym (asked (e .before)) ∙ e .if1 .left)
-    (c .before .before .before .assign-rows .ensures .labels-are ∙ ap (λ (n : ℕ). labelsOf (nearests (rowsFrom (a .dim) (a .k) (a .centroids .now)) (rowsFrom (a .dim) n (a .values .now)))) (same-cells (e .before .before .before .before)))
+    (c .before .before .before .assign-rows .ensures .0 ∙ ap (λ (n : ℕ). labelsOf (nearests (rowsFrom (a .dim) (a .k) (a .centroids .now)) (rowsFrom (a .dim) n (a .values .now)))) (same-cells (e .before .before .before .before)))
 
 pub label-rows-spec : {M : Type 1} → statement M
 label-rows-spec =

@@ -1,11 +1,12 @@
-use Rattle.labels.proofs.Assigns.{Assigning, assigning-start, assigning-step, assigning-labels, assigning-distances, assigning-same}
-use Rattle.labels.specs.Inside.{byPanels}
-use Rattle.labels.specs.declared.nearest.Nearest.{Nearest}
-use Rattle.sums.proofs.Rows.{room, part-length}
+use Prim.Native.Nat.{ℕ, _≤_, _+_, _-_, _*_, _<_}
+use mathlib.Core.Path.{_≡_, refl, _∙_}
+use native.Mathlib.Nat.{add-sub-cancel-left, suc-mul}
+use native.Mathlib.Numerals.{add-one}
 use lib.ListN.{length}
-use native.Mathlib.Nat.{add-sub-cancel-left}
-use mathlib.Core.Path.{_≡_, ap, _∙_}
-use Prim.Native.Nat.{_≤_, _+_, _-_, _*_}
+use Rattle.sums.proofs.Rows.{room, part-length}
+use Rattle.labels.specs.declared.nearest.Nearest.{Nearest}
+use Rattle.labels.specs.Inside.{byPanels}
+use Rattle.labels.proofs.Assigns.{Assigning, assigning-start, assigning-step, assigning-labels, assigning-distances, assigning-same}
 use borrow.Author.Needs.{needs}
 use native.Mathlib.Omega.{arith}
 use Rattle.labels.proofs.nearest.assign_by_panels.Statement.{statement}
@@ -20,18 +21,112 @@ abbrev μ-loop : tie.MeasureT-loop
 loop-holds : tie.Need-loop-holds Inv-loop μ-loop
 loop-holds c = assigning-start _ _ _ (c .before .before .before .before .before .before .pre .0 .1 .0)
 
--- row i lies inside
-inside : (c : tie.In-loop Inv-loop μ-loop) → c .before .loop .i * c .before .before .before .before .before .before .before .before .args .dim + c .before .before .before .before .before .before .before .before .args .dim ≤ length (c .before .before .before .before .before .before .before .before .args .values .now)
-inside c = let a = c .before .before .before .before .before .before .before .before .args in omega (arith, room (c .before .loop .i) (length (a .labels .now)) (a .dim) (omega arith))
+add-loop : tie.Need-add-loop Inv-loop μ-loop
+add-loop c = search needs
+
+-- rows i and i + 1 lie inside
+inside : (c : tie.In-loop Inv-loop μ-loop) → c .before .loop .i * c .before .before .before .before .before .before .before .before .args .dim + c .before .before .before .before .before .before .before .before .args .dim + c .before .before .before .before .before .before .before .before .args .dim ≤ length (c .before .before .before .before .before .before .before .before .args .values .now)
+inside c =
+    let t = c .before in
+    let a = c .before .before .before .before .before .before .before .before .args in
+    let e : (t .loop .i + 1) * a .dim ≡ t .loop .i * a .dim + a .dim = rw (add-one, suc-mul) in
+    omega (arith, e, room (t .loop .i + 1) (length (a .labels .now)) (a .dim) (omega arith))
 
 mul-at : tie.Need-mul-at Inv-loop μ-loop
 mul-at c = omega (arith, inside c)
 
+add-j : tie.Need-add-j Inv-loop μ-loop
+add-j c = search needs
+
+add-mid : tie.Need-add-mid Inv-loop μ-loop
+add-mid c = omega (arith, inside c)
+
 add-end : tie.Need-add-end Inv-loop μ-loop
 add-end c = omega (arith, inside c)
 
+mul-row : tie.Need-mul-row Inv-loop μ-loop
+mul-row c = omega (arith, inside c)
+
+sub-row : tie.Need-sub-row Inv-loop μ-loop
+sub-row c = search needs
+
+part-row-start : tie.Need-part-row-start Inv-loop μ-loop
+part-row-start c = search needs
+
+part-row-end : tie.Need-part-row-end Inv-loop μ-loop
+part-row-end c = omega (arith, inside c)
+
+mul-second : tie.Need-mul-second Inv-loop μ-loop
+mul-second c = omega (arith, inside (c .before))
+
+sub-second : tie.Need-sub-second Inv-loop μ-loop
+sub-second c = search needs
+
+part-second-start : tie.Need-part-second-start Inv-loop μ-loop
+part-second-start c = search needs
+
+part-second-end : tie.Need-part-second-end Inv-loop μ-loop
+part-second-end c = inside (c .before)
+
+mul-find-nearest-pair : tie.Need-mul-find-nearest-pair Inv-loop μ-loop
+mul-find-nearest-pair c = search needs
+
+shared-slice-read-find-nearest-pair : tie.Need-shared-slice-read-find-nearest-pair Inv-loop μ-loop
+shared-slice-read-find-nearest-pair c = search needs
+
+mul-find-nearest-pair-2 : tie.Need-mul-find-nearest-pair-2 Inv-loop μ-loop
+mul-find-nearest-pair-2 c = search needs
+
+shared-slice-read-find-nearest-pair-2 :
+    tie.Need-shared-slice-read-find-nearest-pair-2 Inv-loop μ-loop
+shared-slice-read-find-nearest-pair-2 c = omega (arith, c .before .before .before .before .before .before .before .before .before .before .before .before .pre .0 .1 .1, c .before .before .before .before .before .loop .inv .labels-sized, c .before .before .before .before .loop-test .taken)
+
+find-nearest-pair-requires : tie.Need-find-nearest-pair-requires Inv-loop μ-loop
+find-nearest-pair-requires c κs =
+    let t = c .before .before .before .before .before in
+    let z = t .before .before .before .before .before .before .before in
+    let v = z .args .values .now in
+    let at = t .loop .i * z .args .dim in
+    let fits = inside (c .before .before .before .before) in
+    rw (part-length at (z .args .dim) v (omega (arith, fits)), part-length (at + z .args .dim) (z .args .dim) v fits) ((refl, (z .pre .1 .0, z .pre .1 .1 .0)), z .pre .1 .1 .1)
+
+put-requires : tie.Need-put-requires Inv-loop μ-loop
+put-requires c κs = search needs
+
+put-requires-2 : tie.Need-put-requires-2 Inv-loop μ-loop
+put-requires-2 c κs = search needs
+
+add-i : tie.Need-add-i Inv-loop μ-loop
+add-i c = omega (arith, c .before .before .before .before .before .before .before .before .before .before .before .before .before .before .before .before .before .before .before)
+
+loop-less : tie.Need-loop-less Inv-loop μ-loop
+loop-less c = search needs
+
+loop-again : tie.Need-loop-again Inv-loop μ-loop
+loop-again c =
+    let t = c .before .before .before .before .before .before .before .before .before .before .before .before .before .before .before .before .before .before .before .before in
+    let z = t .before .before .before .before .before .before .before in
+    let p = c .before .before .before .before .before .before .before .before .before .before .before .before .before .before .find-nearest-pair in
+    let f : ℕ → Nearest = byPanels (z .args .values .now) (z .args .own .now) (z .args .dim) (z .args .panels .now) (z .args .norms .now) in
+    let l : t .loop .i + 1 < length (z .args .labels .now) = omega (arith, c .before .before .before .before .before .before .before .before .before .before .before .before .before .before .before .before .before .before .before .loop-test .taken, t .loop .inv .labels-sized) in
+    let first : p .result .first ≡ f (t .loop .i) = p .ensures .0 ∙ rw add-sub-cancel-left in
+    let second : p .result .second ≡ f (t .loop .i + 1) = p .ensures .1 ∙ rw (add-sub-cancel-left, add-one, suc-mul) in
+    let one = c .before .before .before .before .before .before .before .before .before .before .before .put .ensures in
+    let two = c .before .before .before .before .put2 .ensures in
+    assigning-step (assigning-step (t .loop .inv) (p .result .first) (omega arith) first (one .0 .0) (one .0 .1) (one .1)) (p .result .second) l second (two .0 .0) (two .0 .1) (two .1)
+
+-- the last row lies inside
+inside-last : (c : tie.Then1 Inv-loop μ-loop) → c .before .before .loop .i * c .before .before .before .before .before .before .before .before .before .args .dim + c .before .before .before .before .before .before .before .before .before .args .dim ≤ length (c .before .before .before .before .before .before .before .before .before .args .values .now)
+inside-last c = let a = c .before .before .before .before .before .before .before .before .before .args in omega (arith, room (c .before .before .loop .i) (length (a .labels .now)) (a .dim) (omega arith))
+
+mul-at-2 : tie.Need-mul-at-2 Inv-loop μ-loop
+mul-at-2 c = omega (arith, inside-last c)
+
+add-end-2 : tie.Need-add-end-2 Inv-loop μ-loop
+add-end-2 c = omega (arith, inside-last c)
+
 mul-find-nearest : tie.Need-mul-find-nearest Inv-loop μ-loop
-mul-find-nearest c = omega (arith, inside c)
+mul-find-nearest c = omega (arith, inside-last c)
 
 sub-find-nearest : tie.Need-sub-find-nearest Inv-loop μ-loop
 sub-find-nearest c = search needs
@@ -40,7 +135,7 @@ part-find-nearest-start : tie.Need-part-find-nearest-start Inv-loop μ-loop
 part-find-nearest-start c = search needs
 
 part-find-nearest-end : tie.Need-part-find-nearest-end Inv-loop μ-loop
-part-find-nearest-end c = inside c
+part-find-nearest-end c = inside-last c
 
 mul-find-nearest-2 : tie.Need-mul-find-nearest-2 Inv-loop μ-loop
 mul-find-nearest-2 c = search needs
@@ -50,43 +145,12 @@ shared-slice-read-find-nearest c = search needs
 
 find-nearest-requires : tie.Need-find-nearest-requires Inv-loop μ-loop
 find-nearest-requires c κs =
-    let z = c .before .before .before .before .before .before .before .before .before .before in
-    rw (part-length (c .before .before .before .loop .i * z .args .dim) (z .args .dim) (z .args .values .now) (inside (c .before .before))) ((z .pre .1 .0, z .pre .1 .1 .0), z .pre .1 .1 .1)
+    let u = c .before .before in
+    let z = u .before .before .before .before .before .before .before .before .before in
+    rw (part-length (u .before .before .loop .i * z .args .dim) (z .args .dim) (z .args .values .now) (inside-last u)) ((z .pre .1 .0, z .pre .1 .1 .0), z .pre .1 .1 .1)
 
-mul-still : tie.Need-mul-still Inv-loop μ-loop
-mul-still c = search needs
-
-slice-read-still : tie.Need-slice-read-still Inv-loop μ-loop
-slice-read-still c = search needs
-
-still-requires : tie.Need-still-requires Inv-loop μ-loop
-still-requires c κs = search needs
-
-mul-labels : tie.Need-mul-labels Inv-loop μ-loop
-mul-labels c = search needs
-
-slice-write-labels : tie.Need-slice-write-labels Inv-loop μ-loop
-slice-write-labels c = search needs
-
-mul-distances : tie.Need-mul-distances Inv-loop μ-loop
-mul-distances c = search needs
-
-slice-write-distances : tie.Need-slice-write-distances Inv-loop μ-loop
-slice-write-distances c = search needs
-
-add-i : tie.Need-add-i Inv-loop μ-loop
-add-i c = search needs
-
-loop-less : tie.Need-loop-less Inv-loop μ-loop
-loop-less c = search needs
-
-loop-again : tie.Need-loop-again Inv-loop μ-loop
-loop-again c =
-    let z = c .before .before .before .before .before .before .before .before .before .before .before .before .before in
-    let a = z .args in
-    let found : c .before .before .find-nearest .result ≡ byPanels (a .values .now) (a .own .now) (a .dim) (a .panels .now) (a .norms .now) (c .before .before .before .before .before .before .loop .i)
-    = c .before .before .find-nearest .ensures ∙ rw add-sub-cancel-left in
-    assigning-step (c .before .before .before .before .before .before .loop .inv) _ _ _ (omega arith) (ap (λ (n : Nearest). n .label) found) (ap (λ (n : Nearest). n .distance) found) (c .still .ensures)
+put-requires-3 : tie.Need-put-requires-3 Inv-loop μ-loop
+put-requires-3 c κs = search needs
 
 same-length : tie.Need-same-length Inv-loop μ-loop
 same-length c = search needs
@@ -96,9 +160,25 @@ same-length-2 c = search needs
 
 returns : tie.Need-returns Inv-loop μ-loop
 returns c =
-    let h = c .before .loop .inv in
-    let e : length (c .before .before .before .before .before .before .before .before .args .labels .now) ≤ c .before .loop .i = omega arith in
-    record { labels-are = assigning-labels h e; distances-are = assigning-distances h e; same-is = assigning-same h e }
+    let t = c .before .before .before .before .before .before .before .before .before .before .before .before in
+    let last = c .before .before .before .before .put3 .ensures in
+    let n = length (t .before .before .before .before .before .before .before .args .labels .now) in
+    let l : t .loop .i < n = omega (arith, c .before .before .before .before .before .before .before .before .before .before .if1 .taken, t .loop .inv .labels-sized) in
+    let e : n ≤ t .loop .i + 1 = omega (arith, c .before .before .before .before .before .before .before .before .before .before .before .loop-test .left, t .loop .inv .labels-sized) in
+    let h = assigning-step (t .loop .inv) (c .before .before .before .before .before .before .before .find-nearest .result) l (c .before .before .before .before .before .before .before .find-nearest .ensures ∙ rw add-sub-cancel-left) (last .0 .0) (last .0 .1) (last .1) in
+    (assigning-labels h e, (assigning-distances h e, assigning-same h e))
+
+same-length-3 : tie.Need-same-length-3 Inv-loop μ-loop
+same-length-3 c = search needs
+
+same-length-4 : tie.Need-same-length-4 Inv-loop μ-loop
+same-length-4 c = search needs
+
+returns-2 : tie.Need-returns-2 Inv-loop μ-loop
+returns-2 c =
+    let h = c .before .before .loop .inv in
+    let e : length (c .before .before .before .before .before .before .before .before .before .args .labels .now) ≤ c .before .before .loop .i = omega arith in
+    (assigning-labels h e, (assigning-distances h e, assigning-same h e))
 
 pub assign-by-panels-spec : {M : Type 1} → statement M
 assign-by-panels-spec =
@@ -107,8 +187,31 @@ assign-by-panels-spec =
     Inv-loop
     μ-loop
     loop-holds
+    add-loop
     mul-at
+    add-j
+    add-mid
     add-end
+    mul-row
+    sub-row
+    part-row-start
+    part-row-end
+    mul-second
+    sub-second
+    part-second-start
+    part-second-end
+    mul-find-nearest-pair
+    shared-slice-read-find-nearest-pair
+    mul-find-nearest-pair-2
+    shared-slice-read-find-nearest-pair-2
+    find-nearest-pair-requires
+    put-requires
+    put-requires-2
+    add-i
+    loop-less
+    loop-again
+    mul-at-2
+    add-end-2
     mul-find-nearest
     sub-find-nearest
     part-find-nearest-start
@@ -116,16 +219,10 @@ assign-by-panels-spec =
     mul-find-nearest-2
     shared-slice-read-find-nearest
     find-nearest-requires
-    mul-still
-    slice-read-still
-    still-requires
-    mul-labels
-    slice-write-labels
-    mul-distances
-    slice-write-distances
-    add-i
-    loop-less
-    loop-again
+    put-requires-3
     same-length
     same-length-2
-    returns)
+    returns
+    same-length-3
+    same-length-4
+    returns-2)

@@ -115,7 +115,7 @@ same-length-2 c = search needs
 returns : tie.Need-returns
 returns c =
     let z = c .before .before .before .before .before .before .before .before .before .before .before .before .before .before .before .before .before .before .before .before in
-    by-centroids (z .pre) (panelCells z) (le-of-eq refl) refl (room-holds (c .before .before .before .before .before .before .before .before .before .before .before .before .before) .is) (lengths-hold (c .before .before .before .before .before .before .before .before .before .before) .is) (c .before .before .before .before .assign-by-panels .ensures)
+    by-centroids (z .pre) _ _ _ _ (panelCells z) (le-of-eq refl) refl (room-holds (c .before .before .before .before .before .before .before .before .before .before .before .before .before) .is) (lengths-hold (c .before .before .before .before .before .before .before .before .before .before) .is) (c .before .before .before .before .assign-by-panels .ensures)
 
 pub assign-rows-spec : {M : Type 1} → statement M
 assign-rows-spec =

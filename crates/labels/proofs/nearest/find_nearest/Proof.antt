@@ -1,14 +1,11 @@
-use Rattle.labels.proofs.Searches.{panelScore, panel-scores, nearest-add}
-use Rattle.labels.proofs.Columns.{dots-at}
-use Rattle.labels.specs.Label.{scoreFrom, nearestFrom, nothingYet}
+use Rattle.labels.proofs.Searches.{panelScore, panel-scores, panel-more}
+use Rattle.labels.specs.Label.{nearestFrom, nothingYet}
 use Rattle.sums.proofs.Rows.{room}
-use Rattle.sums.proofs.Tables.{tab-same}
 use Rattle.sums.specs.Tables.{tabulate}
-use lib.Ieee.{nan}
-use lib.ListN.{length, getD}
+use lib.ListN.{length}
 use native.Mathlib.Numerals.{add-one}
-use native.Mathlib.Nat.{add-sub-cancel-left, suc-mul, zero-mul}
-use mathlib.Core.Path.{_≡_, refl, sym, _∙_}
+use native.Mathlib.Nat.{suc-mul, zero-mul}
+use mathlib.Core.Path.{_≡_, refl, sym}
 use Prim.Native.Nat.{_≤_, _<_, _+_, _-_, _*_, _/_, _%_}
 use borrow.Author.Needs.{needs}
 use native.Mathlib.Omega.{arith}
@@ -73,22 +70,15 @@ loop-less : tie.Need-loop-less Inv-loop μ-loop
 loop-less c = search needs
 
 loop-again : tie.Need-loop-again Inv-loop μ-loop
-unfolding panelScore
 loop-again c =
     let m = c .before .before .before .before in
     let t = m .before .before in
     let a = t .before .before .before .before .before .args in
     let z : t .loop .from % 16 ≡ 0 = t .loop .inv .1 .0 (m .before .loop-test .taken) in
     let n = m .least .result in
-    let f = panelScore (a .row .now) (a .own) (a .panels .now) (a .norms .now) in
+    let small : n ≤ 16 = omega (arith, m .least .ensures) in
     let g : (t .loop .from + n + 15) / 16 ≡ (t .loop .from + 15) / 16 + 1 = omega (arith, m) in
-    let same : tabulate (λ j. scoreFrom (a .own) (getD (a .norms .now) (t .loop .from + j) nan) (getD (c .before .before .dots16 .result) j nan)) n ≡ tabulate (λ j. f (t .loop .from + j)) n
-    = tab-same _ _ n (λ j l.
-    let lo : j < 16 = omega (arith, l, m .least .ensures) in
-    let q : (t .loop .from + j) / 16 ≡ (t .loop .from + 15) / 16 = omega (arith, z, lo) in
-    let r : (t .loop .from + j) % 16 ≡ j = omega (arith, z, lo) in
-    rw (q, r, c .before .before .dots16 .ensures, dots-at _ _ j lo, add-sub-cancel-left, t .loop .inv .1 .1 .0)) in
-    (omega (arith, m), (λ h. omega (arith, m, h), (rw (g, add-one, suc-mul) (omega arith), c .scan16 .ensures ∙ rw (same, t .loop .inv .1 .1 .1) (sym (nearest-add f (t .loop .from) n nothingYet)))))
+    (omega (arith, m), (λ h. omega (arith, m, h), (rw (g, add-one, suc-mul) (omega arith), panel-more (a .row .now) (a .own) (a .panels .now) (a .norms .now) _ (t .loop .from) n (t .loop .at) (16 * length (a .row .now)) _ _ z small refl (t .loop .inv .1 .1 .0) (c .before .before .dots16 .ensures) (t .loop .inv .1 .1 .1) (c .scan16 .ensures))))
 
 returns : tie.Need-returns Inv-loop μ-loop
 returns c =

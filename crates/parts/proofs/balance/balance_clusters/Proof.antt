@@ -3,7 +3,8 @@ use Rattle.parts.proofs.Rounds.{Balancing, balanced-done, reach-start, 
 use Rattle.parts.proofs.Seeks.{Seeking, seeking-start, seeking-on, seeking-found, seeking-none}
 use Rattle.parts.specs.Inside.{total}
 use Rattle.parts.specs.Balance.{allowed, allowance}
-use Rattle.sums.specs.Rows.{rowsFrom}
+use mathlib.Core.List.{List}
+use Rattle.sums.specs.Rows.{Row, rowsFrom}
 use borrow.Author.Tests.{lt-ltb, le-ltb}
 use lib.Ieee.{ofBits, inFloat}
 use lib.ListN.{length, getD}
@@ -155,8 +156,12 @@ rounds-again c =
       below = v .ensures .1 .1;
       so-far = λ ps pe se.
           reach-on (k .inv .so-far ps pe se) (omega (arith, c .before .before .before .before .before .before .before .before .before .before .before .before .before .before .before .before .before .rounds-test .taken)) g r eg er hg hr _ _
-          (λ qs qe re. let z = rw (k .inv .kept′) at (v .ensures .0 qs qe re) in (z .laid, z .sized));
+          (λ qs qe re. let z = rw (k .inv .kept′) at (v .ensures .0 qs qe re) in (z .0, z .1));
     }
+
+-- the centroids, as rows
+abbrev centroids-of : tie.At-rounds Inv-loop μ-loop Inv-loop2 μ-loop2 Inv-rounds μ-rounds → List Row
+centroids-of k = let a = k .before .before .before .before .before .before .args in rowsFrom (a .dim) (length (a .sizes .now)) (a .centroids .now)
 
 same-length : tie.Need-same-length Inv-loop μ-loop Inv-loop2 μ-loop2 Inv-rounds μ-rounds
 same-length c = search needs
@@ -165,7 +170,7 @@ same-length-2 : tie.Need-same-length-2 Inv-loop μ-loop Inv-loop2 μ-loop2 Inv-r
 same-length-2 c = search needs
 
 returns : tie.Need-returns Inv-loop μ-loop Inv-loop2 μ-loop2 Inv-rounds μ-rounds
-returns c = λ ps pe se. balanced-done (share-of _ _ ps pe se) (reach-end (c .before .rounds .inv .so-far ps pe se) (omega arith))
+returns c = λ ps pe se. balanced-done _ (centroids-of (c .before)) _ ps (share-of _ _ ps pe se) (reach-end (c .before .rounds .inv .so-far ps pe se) (omega arith))
 
 same-length-3 : tie.Need-same-length-3 Inv-loop μ-loop Inv-loop2 μ-loop2 Inv-rounds μ-rounds
 same-length-3 c = search needs
@@ -174,7 +179,7 @@ same-length-4 : tie.Need-same-length-4 Inv-loop μ-loop Inv-loop2 μ-loop2 Inv-r
 same-length-4 c = search needs
 
 returns-2 : tie.Need-returns-2 Inv-loop μ-loop Inv-loop2 μ-loop2 Inv-rounds μ-rounds
-returns-2 c = λ ps pe se. balanced-done (share-of _ _ ps pe se) (reach-off (c .before .before .before .rounds .inv .so-far ps pe se) (omega arith) (inl (seeking-none (c .before .loop .inv) (omega arith))))
+returns-2 c = λ ps pe se. balanced-done _ (centroids-of (c .before .before .before)) _ ps (share-of _ _ ps pe se) (reach-off (c .before .before .before .rounds .inv .so-far ps pe se) (omega arith) (inl (seeking-none (c .before .loop .inv) (omega arith))))
 
 same-length-5 : tie.Need-same-length-5 Inv-loop μ-loop Inv-loop2 μ-loop2 Inv-rounds μ-rounds
 same-length-5 c = search needs
@@ -183,7 +188,7 @@ same-length-6 : tie.Need-same-length-6 Inv-loop μ-loop Inv-loop2 μ-loop2 Inv-r
 same-length-6 c = search needs
 
 returns-3 : tie.Need-returns-3 Inv-loop μ-loop Inv-loop2 μ-loop2 Inv-rounds μ-rounds
-returns-3 c = λ ps pe se. balanced-done (share-of _ _ ps pe se) (reach-off (c .before .before .before .before .before .before .before .before .rounds .inv .so-far ps pe se) (omega arith) (inr (seeking-none (c .before .loop2 .inv) (omega arith))))
+returns-3 c = λ ps pe se. balanced-done _ (centroids-of (c .before .before .before .before .before .before .before .before)) _ ps (share-of _ _ ps pe se) (reach-off (c .before .before .before .before .before .before .before .before .rounds .inv .so-far ps pe se) (omega arith) (inr (seeking-none (c .before .loop2 .inv) (omega arith))))
 
 pub balance-clusters-spec : {M : Type 1} → statement M
 balance-clusters-spec =

@@ -1,0 +1,137 @@
+-- The lengths that a contract asks for, one by one: what a list of lengths says, and back. Assumes nothing.
+use mathlib.Core.Path.{_≡_}
+use mathlib.Core.List.{List, [], _∷_}
+use Prim.Native.Nat.{ℕ, _*_, _≤_, _<_}
+use Rattle.kmeans.specs.Call.{lengthsOf}
+use Rattle.kmeans.specs.Inside.{Limits, roomOf, spacesOf}
+
+-- how long the slices of an iteration over `rows` training rows are
+pub record Room (dim rows k block training own centroids distances totals at : ℕ) : Type 0 where
+  pub some-dim : 0 < dim
+  pub small-dim : dim ≤ 64
+  pub some-rows : 0 < rows
+  pub few-rows : rows ≤ 4096
+  pub some : 0 < k
+  pub few : k ≤ 64
+  pub some-block : 0 < block
+  pub training-cells : training ≡ rows * dim
+  pub own-cells : own ≡ rows
+  pub centroid-cells : centroids ≡ k * dim
+  pub distance-cells : distances ≡ rows
+  pub total-cells : totals ≡ k * dim
+  pub at-cells : at ≡ k
+
+module _ {dim rows k block training own centroids distances totals at : ℕ} where
+  pub room-in : (Limits dim k rows × ((0 < rows) × (0 < block))) × ((training ∷ own ∷ centroids ∷ distances ∷ totals ∷ at ∷ []) ≡ roomOf dim rows k)
+      → Room dim rows k block training own centroids distances totals at
+  room-in h = let e = h .1 in
+      record {
+        some-dim = h .0 .0 .0 .0;
+        small-dim = h .0 .0 .0 .1;
+        some-rows = h .0 .1 .0;
+        few-rows = h .0 .0 .1 .1;
+        some = h .0 .0 .1 .0 .0;
+        few = h .0 .0 .1 .0 .1;
+        some-block = h .0 .1 .1;
+        training-cells = cc;
+        own-cells = cc;
+        centroid-cells = cc;
+        distance-cells = cc;
+        total-cells = cc;
+        at-cells = cc;
+      }
+
+  pub room-out : Room dim rows k block training own centroids distances totals at
+      → (Limits dim k rows × ((0 < rows) × (0 < block))) × ((training ∷ own ∷ centroids ∷ distances ∷ totals ∷ at ∷ []) ≡ roomOf dim rows k)
+  room-out r = (
+    (((r .some-dim, r .small-dim), ((r .some, r .few), r .few-rows)), (r .some-rows, r .some-block)),
+    rw (r .training-cells, r .own-cells, r .centroid-cells, r .distance-cells, r .total-cells, r .at-cells),
+  )
+
+-- how long the slices of the restarts are; `rows` rows, of which `aim` train
+pub record Spaces (dim rows aim k values own training centroids distances trialLabels places : ℕ) : Type 0 where
+  pub some-dim : 0 < dim
+  pub small-dim : dim ≤ 64
+  pub some : 0 < k
+  pub few : k ≤ 64
+  pub enough : k ≤ aim
+  pub within : aim ≤ rows
+  pub few-rows : rows ≤ 4096
+  pub value-cells : values ≡ rows * dim
+  pub own-cells : own ≡ rows
+  pub training-cells : training ≡ aim * dim
+  pub centroid-cells : centroids ≡ k * dim
+  pub distance-cells : distances ≡ rows
+  pub trial-cells : trialLabels ≡ rows
+  pub place-cells : places ≡ aim
+
+module _ {dim rows aim k values own training centroids distances trialLabels places : ℕ} where
+  pub spaces-in : (Limits dim k rows × ((k ≤ aim) × (aim ≤ rows))) × ((values ∷ own ∷ training ∷ centroids ∷ distances ∷ trialLabels ∷ places ∷ []) ≡ spacesOf dim rows aim k)
+      → Spaces dim rows aim k values own training centroids distances trialLabels places
+  spaces-in h = let e = h .1 in
+      record {
+        some-dim = h .0 .0 .0 .0;
+        small-dim = h .0 .0 .0 .1;
+        some = h .0 .0 .1 .0 .0;
+        few = h .0 .0 .1 .0 .1;
+        enough = h .0 .1 .0;
+        within = h .0 .1 .1;
+        few-rows = h .0 .0 .1 .1;
+        value-cells = cc;
+        own-cells = cc;
+        training-cells = cc;
+        centroid-cells = cc;
+        distance-cells = cc;
+        trial-cells = cc;
+        place-cells = cc;
+      }
+
+  pub spaces-out : Spaces dim rows aim k values own training centroids distances trialLabels places
+      → (Limits dim k rows × ((k ≤ aim) × (aim ≤ rows))) × ((values ∷ own ∷ training ∷ centroids ∷ distances ∷ trialLabels ∷ places ∷ []) ≡ spacesOf dim rows aim k)
+  spaces-out r = (
+    (((r .some-dim, r .small-dim), ((r .some, r .few), r .few-rows)), (r .enough, r .within)),
+    rw (r .value-cells, r .own-cells, r .training-cells, r .centroid-cells, r .distance-cells, r .trial-cells, r .place-cells),
+  )
+
+-- how long the slices of a call are, and which settings a run takes
+pub record Workspace (points block dim rows k values centroids training own trainingOwn distances trialLabels places : ℕ) : Type 0 where
+  pub some-dim : 0 < dim
+  pub small-dim : dim ≤ 64
+  pub some : 0 < k
+  pub few : k ≤ 64
+  pub enough : k ≤ rows
+  pub few-rows : rows ≤ 4096
+  pub few-points : points ≤ 4096
+  pub some-block : 0 < block
+  pub value-cells : values ≡ rows * dim
+  pub centroid-cells : centroids ≡ k * dim
+  pub training-cells : training ≡ rows * dim
+  pub own-cells : own ≡ rows
+  pub training-own-cells : trainingOwn ≡ rows
+  pub distance-cells : distances ≡ rows
+  pub trial-cells : trialLabels ≡ rows
+  pub place-cells : places ≡ rows
+
+module _ {points block dim rows k values labels centroids training own trainingOwn distances trialLabels places : ℕ} where
+  pub workspace-in : (Limits dim k rows × ((k ≤ rows) × ((points ≤ 4096) × (0 < block))))
+      × ((values ∷ labels ∷ centroids ∷ training ∷ own ∷ trainingOwn ∷ distances ∷ trialLabels ∷ places ∷ []) ≡ (rows * dim ∷ lengthsOf rows dim k))
+      → Workspace points block dim rows k values centroids training own trainingOwn distances trialLabels places
+  workspace-in h = let e = h .1 in
+      record {
+        some-dim = h .0 .0 .0 .0;
+        small-dim = h .0 .0 .0 .1;
+        some = h .0 .0 .1 .0 .0;
+        few = h .0 .0 .1 .0 .1;
+        enough = h .0 .1 .0;
+        few-rows = h .0 .0 .1 .1;
+        few-points = h .0 .1 .1 .0;
+        some-block = h .0 .1 .1 .1;
+        value-cells = cc;
+        centroid-cells = cc;
+        training-cells = cc;
+        own-cells = cc;
+        training-own-cells = cc;
+        distance-cells = cc;
+        trial-cells = cc;
+        place-cells = cc;
+      }

@@ -1,0 +1,20 @@
+use lib.Ieee.{binary32}
+use mathlib.Core.Path.{sym}
+use Rattle.replay.proofs.Sames.{is-nan, known, nan-bits}
+use borrow.Author.Needs.{needs}
+use Rattle.replay.proofs.same.bits_of.Statement.{statement}
+use Rattle.replay.proofs.same.bits_of.Tie as tie
+
+returns : tie.Need-returns
+returns c =
+    sym (nan-bits binary32 (c .before .args .x) (is-nan (c .before .args .x) (c .if1 .taken)))
+
+float-to-bits-result : tie.Need-float-to-bits-result
+float-to-bits-result c =
+    known (c .before .args .x) (c .if1 .left)
+
+returns-2 : tie.Need-returns-2
+returns-2 c = search needs
+
+pub bits-of-spec : {M : Type 1} → statement M
+bits-of-spec = tie.close (tie.spec returns float-to-bits-result returns-2)

@@ -1,0 +1,2 @@
+-- Stored answers of the oracle, held against the definitions.
+pub mod Replay
