@@ -1,6 +1,8 @@
 //! The exported functions, each behind a safe wrapper: the only unsafe code there is. A slice goes as its pointer and its
 //! length, so nothing is asked of the caller.
 
+pub use crate::work::{GroupWork, KMeansWork};
+
 extern "C" {
     fn families_label(
         dim: u32,
@@ -69,6 +71,49 @@ extern "C" {
         places: *mut u16,
         place_cells: usize,
     ) -> u32;
+
+    fn families_group(
+        rows: u32,
+        dim: u32,
+        limit: u32,
+        branching: u32,
+        weight: f32,
+        budget: u32,
+        draws: *const u32,
+        draw_count: usize,
+        values: *const f32,
+        value_cells: usize,
+        order: *mut u16,
+        order_cells: usize,
+        ends: *mut u16,
+        end_cells: usize,
+        means: *mut f32,
+        mean_cells: usize,
+        groups: *mut u32,
+        splits: *mut u32,
+        waiting: *mut u16,
+        waiting_cells: usize,
+        copied: *mut u16,
+        copied_cells: usize,
+        labels: *mut u16,
+        label_cells: usize,
+        gathered: *mut f32,
+        gathered_cells: usize,
+        training: *mut f32,
+        training_cells: usize,
+        own: *mut f32,
+        own_cells: usize,
+        training_own: *mut f32,
+        training_own_cells: usize,
+        distances: *mut f32,
+        distance_cells: usize,
+        trial_labels: *mut u16,
+        trial_cells: usize,
+        places: *mut u16,
+        place_cells: usize,
+    ) -> u32;
+
+    fn families_list(file: *const u8, file_bytes: usize, text: *mut u8, text_bytes: usize) -> u32;
 }
 
 /// The label of one row, in two result bytes: 0, or the refusal's number.
@@ -149,48 +194,6 @@ pub struct KMeansNumbers {
     pub block: u32,
 }
 
-/// The slices that k-means works in; docs/BUFFERS.md has their lengths.
-#[derive(Clone, Debug, PartialEq)]
-pub struct KMeansWork {
-    pub training: Vec<f32>,
-    pub own: Vec<f32>,
-    pub training_own: Vec<f32>,
-    pub distances: Vec<f32>,
-    pub trial_labels: Vec<u16>,
-    pub places: Vec<u16>,
-}
-
-impl KMeansWork {
-    /// Slices of the right lengths, with these values in them.
-    pub fn new(rows: usize, dim: usize, float: f32, cell: u16) -> Self {
-        Self {
-            training: vec![float; rows * dim],
-            own: vec![float; rows],
-            training_own: vec![float; rows],
-            distances: vec![float; rows],
-            trial_labels: vec![cell; rows],
-            places: vec![cell; rows],
-        }
-    }
-
-    /// All bits of all cells are zero.
-    pub fn is_zero(&self) -> bool {
-        let floats = [
-            &self.training,
-            &self.own,
-            &self.training_own,
-            &self.distances,
-        ];
-        let cells = [&self.trial_labels, &self.places];
-        floats
-            .iter()
-            .all(|slice| slice.iter().all(|value| value.to_bits() == 0))
-            && cells
-                .iter()
-                .all(|slice| slice.iter().all(|&cell| cell == 0))
-    }
-}
-
 /// What k-means tells beside its result slices: 0 or the refusal's number, the objective, and the restart kept.
 #[derive(Clone, Copy, Debug)]
 pub struct KMeansTold {
@@ -208,8 +211,9 @@ pub fn kmeans(
     centroids: &mut [f32],
     work: &mut KMeansWork,
 ) -> KMeansTold {
-    let mut objective = 0.0;
-    let mut restart = 0;
+    // Figures that no refusal gives, so that one which the callee leaves alone shows.
+    let mut objective = f64::NAN;
+    let mut restart = u32::MAX;
     let number = unsafe {
         families_kmeans(
             numbers.rows,
@@ -248,4 +252,91 @@ pub fn kmeans(
         objective,
         restart,
     }
+}
+
+/// The numbers of a grouping call.
+#[derive(Clone, Copy, Debug)]
+pub struct GroupNumbers {
+    pub rows: u32,
+    pub dim: u32,
+    pub limit: u32,
+    pub branching: u32,
+    pub weight: f32,
+    pub budget: u32,
+}
+
+/// What grouping tells beside its result slices: 0 or the refusal's number, and how many groups and splits there are.
+#[derive(Clone, Copy, Debug, PartialEq, Eq)]
+pub struct GroupTold {
+    pub number: u32,
+    pub groups: u32,
+    pub splits: u32,
+}
+
+/// Grouping over typed slices.
+pub fn group(
+    numbers: GroupNumbers,
+    draws: &[u32],
+    values: &[f32],
+    order: &mut [u16],
+    ends: &mut [u16],
+    means: &mut [f32],
+    work: &mut GroupWork,
+) -> GroupTold {
+    // Figures that no call gives, so that one which the callee leaves alone shows.
+    let mut groups = u32::MAX;
+    let mut splits = u32::MAX;
+    let kmeans = &mut work.kmeans;
+    let number = unsafe {
+        families_group(
+            numbers.rows,
+            numbers.dim,
+            numbers.limit,
+            numbers.branching,
+            numbers.weight,
+            numbers.budget,
+            draws.as_ptr(),
+            draws.len(),
+            values.as_ptr(),
+            values.len(),
+            order.as_mut_ptr(),
+            order.len(),
+            ends.as_mut_ptr(),
+            ends.len(),
+            means.as_mut_ptr(),
+            means.len(),
+            &mut groups,
+            &mut splits,
+            work.waiting.as_mut_ptr(),
+            work.waiting.len(),
+            work.copied.as_mut_ptr(),
+            work.copied.len(),
+            work.labels.as_mut_ptr(),
+            work.labels.len(),
+            work.gathered.as_mut_ptr(),
+            work.gathered.len(),
+            kmeans.training.as_mut_ptr(),
+            kmeans.training.len(),
+            kmeans.own.as_mut_ptr(),
+            kmeans.own.len(),
+            kmeans.training_own.as_mut_ptr(),
+            kmeans.training_own.len(),
+            kmeans.distances.as_mut_ptr(),
+            kmeans.distances.len(),
+            kmeans.trial_labels.as_mut_ptr(),
+            kmeans.trial_labels.len(),
+            kmeans.places.as_mut_ptr(),
+            kmeans.places.len(),
+        )
+    };
+    GroupTold {
+        number,
+        groups,
+        splits,
+    }
+}
+
+/// The listing of a batch file: how many bytes it has, and as many of them as there is room for.
+pub fn list(file: &[u8], text: &mut [u8]) -> u32 {
+    unsafe { families_list(file.as_ptr(), file.len(), text.as_mut_ptr(), text.len()) }
 }

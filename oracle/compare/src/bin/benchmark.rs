@@ -2,8 +2,7 @@
 //!
 //! `benchmark [ROUNDS]`
 
-use std::time::Instant;
-
+use compare::timing::{rows_around, side_by_side, values};
 use families::exported::{self, KMeansNumbers, KMeansWork};
 use oracle::calls;
 use oracle::random::Random;
@@ -11,34 +10,6 @@ use oracle::slips::Slip;
 
 const ROWS: usize = 4_096;
 const SHAPES: [(usize, usize); 5] = [(3, 16), (16, 16), (16, 64), (64, 64), (64, 16)];
-
-/// Seconds that one run takes.
-fn seconds(run: &mut dyn FnMut()) -> f64 {
-    let began = Instant::now();
-    run();
-    began.elapsed().as_secs_f64()
-}
-
-fn median(mut times: Vec<f64>) -> f64 {
-    times.sort_by(f64::total_cmp);
-    times[times.len() / 2]
-}
-
-/// Medians of both, run in turn so that both meet the same weather.
-fn side_by_side(rounds: usize, mut ours: impl FnMut(), mut theirs: impl FnMut()) -> (f64, f64) {
-    let mut times = (Vec::new(), Vec::new());
-    for _ in 0..rounds {
-        times.0.push(seconds(&mut ours));
-        times.1.push(seconds(&mut theirs));
-    }
-    (median(times.0), median(times.1))
-}
-
-fn values(random: &mut Random, count: usize) -> Vec<f32> {
-    (0..count)
-        .map(|_| random.next_u32() as f32 / (1u32 << 31) as f32 - 1.0)
-        .collect()
-}
 
 fn labelling(rounds: usize, dim: usize, k: usize) {
     let random = &mut Random::new(1, 90, (dim * 100 + k) as u64);
@@ -88,19 +59,10 @@ enum Rows {
 
 fn rows_of(random: &mut Random, dim: usize, k: usize, kind: Rows) -> Vec<f32> {
     match kind {
-        Rows::Clustered => (),
-        Rows::Shapeless => return values(random, ROWS * dim),
-        Rows::Repeating => return values(random, 8 * dim).repeat(ROWS / 8),
+        Rows::Clustered => rows_around(random, ROWS, dim, k),
+        Rows::Shapeless => values(random, ROWS * dim),
+        Rows::Repeating => values(random, 8 * dim).repeat(ROWS / 8),
     }
-    let centres = values(random, k * dim);
-    (0..ROWS)
-        .flat_map(|row| {
-            let centre = row % k * dim;
-            (0..dim)
-                .map(|d| 8.0 * centres[centre + d] + values(random, 1)[0] / 10.0)
-                .collect::<Vec<_>>()
-        })
-        .collect()
 }
 
 /// K-means of 100 iterations, one restart, every row training.

@@ -1,0 +1,159 @@
+//! Speed of grouping against the oracle, side by side in one run on one thread: ratios of medians, and of their sums.
+//!
+//! `benchmark_grouping [ROUNDS]`
+
+use compare::timing::{as_long, rows_around, values};
+use families::exported::{self, GroupNumbers, GroupTold, GroupWork};
+use oracle::calls::{self, GroupingAccepted, GroupingLent, GroupingNumbers};
+use oracle::random::Random;
+use oracle::slips::Slip;
+
+const SHAPES: [(usize, usize); 2] = [(4_096, 3), (1_000, 16)];
+const BRANCHINGS: [u32; 3] = [2, 16, 64];
+const LIMIT: u32 = 40;
+const WEIGHT: f32 = 0.25;
+const BUDGET: u32 = 4_096;
+const CENTRES: usize = 25;
+
+/// What the rows look like.
+#[derive(Clone, Copy, Debug)]
+enum Rows {
+    /// Around 25 centres.
+    Clustered,
+    /// Drawn from everywhere alike.
+    Shapeless,
+    /// Eight rows again and again: only balancing parts them, and no k-means of theirs settles.
+    Repeating,
+}
+
+/// A batch, and room for both sides' results.
+struct Batch {
+    numbers: GroupingNumbers,
+    values: Vec<f32>,
+    draws: Vec<u32>,
+}
+
+#[derive(Debug, PartialEq)]
+struct Results {
+    order: Vec<u16>,
+    ends: Vec<u16>,
+    means: Vec<f32>,
+}
+
+impl Batch {
+    fn new(rows: usize, dim: usize, branching: u32, kind: Rows) -> Self {
+        let name = (rows * 100 + dim) as u64 * 100 + u64::from(branching);
+        let random = &mut Random::new(1, 96, name);
+        let values = match kind {
+            Rows::Clustered => rows_around(random, rows, dim, CENTRES),
+            Rows::Shapeless => values(random, rows * dim),
+            Rows::Repeating => values(random, 8 * dim).repeat(rows / 8),
+        };
+        Self {
+            numbers: GroupingNumbers {
+                rows: rows as u32,
+                dim: dim as u32,
+                // A group of more rows than the limit and fewer than branching would be refused.
+                size_limit: LIMIT.max(branching),
+                branching,
+                weight: WEIGHT,
+                budget: BUDGET,
+            },
+            values,
+            draws: (0..256).map(|_| random.next_u32()).collect(),
+        }
+    }
+
+    fn results(&self) -> Results {
+        let rows = self.numbers.rows as usize;
+        Results {
+            order: vec![0; rows],
+            ends: vec![0; rows],
+            means: vec![0.0; self.values.len()],
+        }
+    }
+
+    fn proved(&self, results: &mut Results, work: &mut GroupWork) -> GroupTold {
+        let numbers = GroupNumbers {
+            rows: self.numbers.rows,
+            dim: self.numbers.dim,
+            limit: self.numbers.size_limit,
+            branching: self.numbers.branching,
+            weight: self.numbers.weight,
+            budget: self.numbers.budget,
+        };
+        exported::group(
+            numbers,
+            &self.draws,
+            &self.values,
+            &mut results.order,
+            &mut results.ends,
+            &mut results.means,
+            work,
+        )
+    }
+
+    fn oracle(&self, results: &mut Results) -> GroupingAccepted {
+        let lent = GroupingLent {
+            order: &mut results.order,
+            ends: &mut results.ends,
+            means: &mut results.means,
+        };
+        let (values, draws) = (&self.values, &self.draws);
+        calls::grouping(&self.numbers, values, draws, true, lent, Slip::None)
+            .expect("the batch is one that is accepted")
+    }
+}
+
+/// Seconds of both sides for one batch.
+fn measure(rounds: usize, batch: &Batch, kind: Rows) -> (f64, f64) {
+    let numbers = &batch.numbers;
+    let mut work = GroupWork::new(numbers.rows as usize, numbers.dim as usize, 0.0, 0);
+    let (mut mine, mut others) = (batch.results(), batch.results());
+    let accepted = batch.oracle(&mut others);
+    let told = GroupTold {
+        number: 0,
+        groups: accepted.groups,
+        splits: accepted.splits,
+    };
+    let (proved, oracle) = as_long(
+        rounds,
+        || assert_eq!(batch.proved(&mut mine, &mut work), told),
+        || assert_eq!(batch.oracle(&mut others), accepted),
+    );
+    assert_eq!(mine, others);
+    println!(
+        "grouping {:4} rows dim {:2} branching {:2} {kind:?}: {:6.2}x the oracle; {:8.2} ms to {:8.2} ms, {} groups, {} splits",
+        numbers.rows,
+        numbers.dim,
+        numbers.branching,
+        oracle / proved,
+        proved * 1e3,
+        oracle * 1e3,
+        told.groups,
+        told.splits,
+    );
+    (proved, oracle)
+}
+
+fn main() {
+    let rounds: usize = std::env::args()
+        .nth(1)
+        .map_or(21, |word| word.parse().expect("a number"));
+    // A round of the last kind takes the oracle many seconds.
+    for (kind, rounds) in [
+        (Rows::Clustered, rounds),
+        (Rows::Shapeless, rounds),
+        (Rows::Repeating, rounds.div_ceil(5)),
+    ] {
+        let mut all = (0.0, 0.0);
+        for (rows, dim) in SHAPES {
+            for branching in BRANCHINGS {
+                let batch = Batch::new(rows, dim, branching, kind);
+                let (proved, oracle) = measure(rounds, &batch, kind);
+                all = (all.0 + proved, all.1 + oracle);
+            }
+        }
+        println!("{kind:?} all together: {:.2}x the oracle", all.1 / all.0);
+    }
+}

@@ -1,0 +1,8 @@
+//! The proved library held against the oracle: what the programs `compare`, `fuzz` and `benchmark` share.
+
+pub mod files;
+pub mod hostile;
+pub mod proved;
+pub mod tally;
+pub mod timing;
+mod weights;

@@ -1,0 +1,138 @@
+//! The oracle's cases, handed to the proved library.
+
+use families::exported;
+use oracle::cases::{BytesOutcome, Case, ClosureBytesCase};
+use oracle::cases::{LabelBytesCase, LabelCase, LabelOutcome};
+use oracle::cases::{STALE_BYTE, STALE_CELL};
+use oracle::refusal::Refusal;
+
+use crate::tally::{number_kind, Need};
+
+mod grouping;
+mod kmeans;
+
+/// What the proved library answered and left.
+pub struct Proved<Outcome> {
+    pub outcome: Outcome,
+    /// Whether all work slices ended all zero, and a refusal's figures blank.
+    pub tidy: bool,
+}
+
+impl<Outcome> Proved<Outcome> {
+    /// Of a call that works in nothing lent.
+    fn without_work(outcome: Outcome) -> Self {
+        Self {
+            outcome,
+            tidy: true,
+        }
+    }
+}
+
+/// A case that the proved library can be handed.
+pub trait Compared: Case {
+    /// What a run of thousands of generated cases has to meet.
+    const NEEDS: &'static [Need];
+
+    fn proved(&self) -> Proved<Self::Outcome>;
+
+    /// What this case is there for, by the oracle's outcome.
+    fn kinds(&self, outcome: &Self::Outcome) -> Vec<String> {
+        vec![number_kind(Self::number(outcome))]
+    }
+}
+
+/// Bytes that stand at any address, as a host may lend them, and end where their allocation ends.
+struct Shifted {
+    by: usize,
+    bytes: Vec<u8>,
+}
+
+impl Shifted {
+    fn new(bytes: &[u8], by: usize) -> Self {
+        let mut shifted = Vec::with_capacity(by + bytes.len());
+        shifted.resize(by, STALE_BYTE);
+        shifted.extend_from_slice(bytes);
+        Self { by, bytes: shifted }
+    }
+
+    fn bytes(&self) -> &[u8] {
+        &self.bytes[self.by..]
+    }
+}
+
+impl Compared for LabelBytesCase {
+    const NEEDS: &'static [Need] = &[("accepted", 100), ("refused 1", 100), ("refused 2", 100)];
+
+    fn proved(&self) -> Proved<BytesOutcome> {
+        let row = Shifted::new(&self.row, self.k as usize % 4);
+        let centroids = Shifted::new(&self.centroids, self.dim as usize % 4);
+        let mut result = vec![STALE_BYTE; self.result_bytes];
+        let number = exported::label(
+            self.dim,
+            self.k,
+            row.bytes(),
+            centroids.bytes(),
+            &mut result,
+        );
+        Proved::without_work(BytesOutcome { number, result })
+    }
+}
+
+impl Compared for ClosureBytesCase {
+    const NEEDS: &'static [Need] = &[
+        ("accepted", 100),
+        ("refused 1", 100),
+        ("refused 2", 100),
+        ("refused 5", 100),
+    ];
+
+    fn proved(&self) -> Proved<BytesOutcome> {
+        let vector = Shifted::new(&self.vector, self.count as usize % 4);
+        let centroids = Shifted::new(&self.centroids, self.dim as usize % 4);
+        let mut result = vec![STALE_BYTE; self.result_bytes];
+        let number = exported::closure(
+            self.dim,
+            self.count,
+            self.max_replicas,
+            self.epsilon,
+            vector.bytes(),
+            centroids.bytes(),
+            &mut result,
+        );
+        Proved::without_work(BytesOutcome { number, result })
+    }
+}
+
+impl Compared for LabelCase {
+    const NEEDS: &'static [Need] = &[("accepted", 100), ("refused 1", 100), ("refused 2", 100)];
+
+    fn proved(&self) -> Proved<LabelOutcome> {
+        let mut labels = vec![STALE_CELL; self.label_cells];
+        let number = exported::label_rows(
+            self.rows,
+            self.dim,
+            self.k,
+            &self.values,
+            &self.centroids,
+            &mut labels,
+        );
+        Proved::without_work(LabelOutcome {
+            answer: answer(number, ()),
+            labels,
+        })
+    }
+}
+
+fn answer<T>(number: u32, accepted: T) -> Result<T, Refusal> {
+    match number {
+        0 => Ok(accepted),
+        _ => Err(Refusal::from_number(number).expect("a refusal's number is one of the table's")),
+    }
+}
+
+/// A length that does not fit: a cell less, or a cell more where it has to be.
+fn spoil<T>(slice: &mut Vec<T>, stale: T, shorter: bool) {
+    if !shorter || slice.pop().is_none() {
+        slice.push(stale);
+    }
+}

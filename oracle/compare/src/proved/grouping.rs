@@ -1,0 +1,164 @@
+//! Grouping.
+
+use families::exported::{self, GroupNumbers, GroupWork};
+use oracle::calls::GroupingAccepted;
+use oracle::cases::{Case, GroupingCase, GroupingOutcome, STALE_CELL, STALE_FLOAT};
+use oracle::random::Random;
+use oracle::slips::Slip;
+
+use super::kmeans::spoil_slice;
+use super::{answer, spoil, Compared, Proved};
+use crate::tally::{number_kind, Need};
+use crate::weights;
+
+/// The work slices, in the order of docs/BUFFERS.md.
+const SLICES: [&str; 10] = [
+    "waiting",
+    "copied",
+    "labels",
+    "gathered",
+    "training",
+    "own",
+    "training_own",
+    "distances",
+    "trial_labels",
+    "places",
+];
+
+/// Which slice of a case whose work slices don't fit is wrong, and whether it is shorter.
+fn wrong_slice(case: &GroupingCase) -> (usize, bool) {
+    let name = (case.values.len() as u64) << 32 | case.draws.len() as u64;
+    let random = &mut Random::new(name, 93, case.numbers.rows.into());
+    (random.below(10) as usize, random.once_in(2))
+}
+
+/// Work slices full of stale values; one of them is too long or short where the case says that they don't fit.
+fn work_of(case: &GroupingCase) -> GroupWork {
+    let rows = case.numbers.rows.min(5_000) as usize;
+    let dim = case.numbers.dim.min(100) as usize;
+    let mut work = GroupWork::new(rows, dim, STALE_FLOAT, STALE_CELL);
+    if case.work_fits {
+        return work;
+    }
+    let (which, shorter) = wrong_slice(case);
+    match which {
+        0 => spoil(&mut work.waiting, STALE_CELL, shorter),
+        1 => spoil(&mut work.copied, STALE_CELL, shorter),
+        2 => spoil(&mut work.labels, STALE_CELL, shorter),
+        3 => spoil(&mut work.gathered, STALE_FLOAT, shorter),
+        _ => spoil_slice(&mut work.kmeans, which - 4, shorter),
+    }
+    work
+}
+
+/// Whether the groups would be others with nothing balanced.
+fn balancing_shows(case: &GroupingCase, outcome: &GroupingOutcome) -> bool {
+    let mut plain = case.clone();
+    plain.numbers.weight = 0.0;
+    case.numbers.weight > 0.0 && plain.run(Slip::None) != *outcome
+}
+
+fn accepted_kinds(case: &GroupingCase, outcome: &GroupingOutcome, splits: u32) -> Vec<String> {
+    if splits == 0 {
+        return vec!["no split".into()];
+    }
+    let mut kinds = vec![weights::kind_of(case.numbers.weight).to_string()];
+    if splits > 1 {
+        kinds.push("several splits".into());
+    }
+    if case.numbers.rows > 256 * case.numbers.branching {
+        kinds.push("some rows not training".into());
+    }
+    if outcome
+        .means
+        .iter()
+        .any(|&bits| f32::from_bits(bits).is_nan())
+    {
+        kinds.push("a NaN mean".into());
+    }
+    if balancing_shows(case, outcome) {
+        kinds.push("groups changed by balancing".into());
+    }
+    kinds
+}
+
+impl Compared for GroupingCase {
+    const NEEDS: &'static [Need] = &[
+        ("accepted", 500),
+        ("refused 1", 50),
+        ("refused 2", 50),
+        ("refused 4", 50),
+        ("refused 6", 50),
+        ("refused 7", 50),
+        (weights::KINDS[0], 10),
+        (weights::KINDS[1], 10),
+        (weights::KINDS[2], 10),
+        (weights::KINDS[3], 10),
+        (weights::KINDS[4], 10),
+        (weights::KINDS[5], 10),
+        (weights::KINDS[6], 10),
+        (weights::KINDS[7], 10),
+        (weights::KINDS[8], 10),
+        ("no split", 10),
+        ("several splits", 100),
+        ("some rows not training", 10),
+        ("a NaN mean", 10),
+        ("groups changed by balancing", 50),
+        ("wrong waiting", 1),
+        ("wrong copied", 1),
+        ("wrong labels", 1),
+        ("wrong gathered", 1),
+        ("wrong training", 1),
+        ("wrong own", 1),
+        ("wrong training_own", 1),
+        ("wrong distances", 1),
+        ("wrong trial_labels", 1),
+        ("wrong places", 1),
+    ];
+
+    fn proved(&self) -> Proved<GroupingOutcome> {
+        let mut work = work_of(self);
+        let mut order = vec![STALE_CELL; self.order_cells];
+        let mut ends = vec![STALE_CELL; self.end_cells];
+        let mut means = vec![STALE_FLOAT; self.mean_cells];
+        let numbers = &self.numbers;
+        let told = exported::group(
+            GroupNumbers {
+                rows: numbers.rows,
+                dim: numbers.dim,
+                limit: numbers.size_limit,
+                branching: numbers.branching,
+                weight: numbers.weight,
+                budget: numbers.budget,
+            },
+            &self.draws,
+            &self.values,
+            &mut order,
+            &mut ends,
+            &mut means,
+            &mut work,
+        );
+        // A refusal carries its number alone: the counts are blank.
+        let blank = told.groups == 0 && told.splits == 0;
+        let accepted = GroupingAccepted {
+            groups: told.groups,
+            splits: told.splits,
+        };
+        Proved {
+            outcome: GroupingOutcome::new(answer(told.number, accepted), order, ends, &means),
+            tidy: work.is_zero() && (told.number == 0 || blank),
+        }
+    }
+
+    fn kinds(&self, outcome: &GroupingOutcome) -> Vec<String> {
+        let number = Self::number(outcome);
+        let mut kinds = vec![number_kind(number)];
+        if let Ok(accepted) = outcome.answer {
+            kinds.extend(accepted_kinds(self, outcome, accepted.splits));
+        }
+        if number == 2 && !self.work_fits {
+            kinds.push(format!("wrong {}", SLICES[wrong_slice(self).0]));
+        }
+        kinds
+    }
+}
