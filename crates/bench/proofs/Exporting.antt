@@ -1,7 +1,7 @@
 -- The exported functions: refusals 1 and 2, cells as bytes, and from an answer to its number and bytes. Assumes nothing.
 use Prim.Native.Nat.{ℕ, zero, suc, _+_, _*_, _/_, _%_, _≤_, _<_}
 use mathlib.Core.Path.{_≡_, refl, sym, ap, _∙_}
-use mathlib.Core.List.{List, [], _∷_, _++_, flatMap, append-assoc}
+use mathlib.Core.List.{List, [], _∷_, _++_, flatMap, flatten, append-assoc}
 use native.Mathlib.Numerals.{add-one}
 use native.Mathlib.Omega.{arith}
 use borrow.Author.Tests.{eqb-true, le-leb, eq-eqb}
@@ -9,7 +9,7 @@ use lib.ListN.{length, getD, take, drop, replicate, length-append, drop-of-lengt
 use lib.Seq.{take-suc, take-all, take-at, length-take-le}
 use lib.Ieee.{Float}
 use Rattle.sums.specs.Rows.{Row, rowsFrom}
-use Rattle.sums.specs.Refusals.{Answer, accepted, refused, lowestFrom, unless, onAccepted, padded, cellsOf}
+use Rattle.sums.specs.Refusals.{Answer, accepted, refused, lowestFrom, unless, onAccepted, padded, cellsOf, blankCell}
 use Rattle.sums.proofs.Tables.{length-tab}
 use Rattle.words.specs.Bytes.{floatsFrom, bytes16}
 use Rattle.words.proofs.ByteLaws.{floats-tab}
@@ -24,12 +24,12 @@ use Rattle.kmeans.specs.KMeans.{Result}
 use Rattle.kmeans.specs.Call.{Gives as KMeansGives}
 use Rattle.kmeans.specs.declared.call.KMeansAnswer.{KMeansAnswer}
 use Rattle.kmeans.specs.declared.call.KMeansAnswer.the-variants.{Accepted, Refused as KMeansAnswer·Refused}
-use Rattle.grouping.specs.Groups.{Groups}
+use Rattle.grouping.specs.Groups.{Groups, endsFrom, meanOf}
 use Rattle.grouping.specs.Call.{figures, Gives as GroupGives}
 use Rattle.grouping.specs.declared.call.GroupingAnswer.{GroupingAnswer}
 use Rattle.grouping.specs.declared.call.GroupingAnswer.the-variants.{Accepted as GroupingAnswer·Accepted, Refused as GroupingAnswer·Refused}
 use Rattle.sums.specs.Sums.{zero32}
-use Rattle.bench.specs.Exports.{codeOf, bytesOf, Gave, labelRefusal, labelOf, labelCall, closureRefusal, closureBytesCall, closureWritten, figureOf, KMeansGave, GroupGave}
+use Rattle.bench.specs.Exports.{codeOf, Gave, labelRefusal, labelOf, labelCall, closureRefusal, closureBytesCall, closureWritten, figureOf}
 use Rattle.sums.proofs.Fronts.{flat-append}
 
 -- ---- cells as bytes
@@ -63,17 +63,17 @@ pub code-told : (answer : Answer (List ℕ)) (n : ℕ) (r r′ : LabelAnswer) (c
 code-told answer n r r′ cells g e = ap (λ (x : LabelAnswer). codeOf (told x)) (sym e) ∙ (ap codeOf (g .result) ∙ same-code _ answer)
 
 pub gave-refused : {A : Type 0} (written : A → List ℕ) (len n : ℕ) (result : List ℕ) → result ≡ replicate len 255 → Gave (refused n) len written n result
-unfolding codeOf bytesOf
-gave-refused written len n result e = record { code = refl; bytes = e }
+unfolding codeOf figureOf
+gave-refused written len n result e = (refl, e)
 
 module _ (len k : ℕ) (r : ClosureAnswer) (cells result : List ℕ) where
   pub listed : (answer : Answer (List ℕ)) (n : ℕ) → Gives answer k r cells → r ≡ Listed n → result ≡ flatMap bytes16 cells ++ bytes16 n
       → Gave answer len (closureWritten k) 0 result
-  unfolding onAccepted cellsOf codeOf bytesOf closureWritten
+  unfolding onAccepted cellsOf codeOf figureOf closureWritten
   listed (accepted indices) n g e w =
       let is : _≡_ {A = Answer ℕ} (accepted n) (accepted (length indices)) = rw e at (g .result) in
       let same : n ≡ length indices = cc in
-      record { code = refl; bytes = w ∙ rw (same, g .listing) }
+      (refl, w ∙ rw (same, g .listing))
   listed (refused number) n g e w =
       let is : _≡_ {A = Answer ℕ} (accepted n) (refused number) = rw e at (g .result) in
       let z : _≡_ {A = ℕ} 0 1 = cc in
@@ -81,14 +81,14 @@ module _ (len k : ℕ) (r : ClosureAnswer) (cells result : List ℕ) where
 
   pub refusing : (answer : Answer (List ℕ)) (n : ℕ) → Gives answer k r cells → r ≡ Refused n → result ≡ replicate len 255
       → Gave answer len (closureWritten k) n result
-  unfolding onAccepted codeOf bytesOf
+  unfolding onAccepted codeOf figureOf
   refusing (accepted indices) n g e w =
       let is : _≡_ {A = Answer ℕ} (refused n) (accepted (length indices)) = rw e at (g .result) in
       let z : _≡_ {A = ℕ} 0 1 = cc in
       absurd (omega arith)
   refusing (refused number) n g e w =
       let is : _≡_ {A = Answer ℕ} (refused n) (refused number) = rw e at (g .result) in
-      record { code = cc; bytes = w }
+      (cc, w)
 
 -- ---- closure's call
 pub record Fitting (dim count vector centroids result : ℕ) : Type 0 where
@@ -161,8 +161,8 @@ module _ (dim k : ℕ) (row centroids : List ℕ) (result : ℕ) where
 
   pub label-given : (len : ℕ) (bytes : List ℕ) → labelRefusal dim k (length row) (length centroids) result ≡ 0 → bytes ≡ bytes16 (labelOf dim k row centroids)
       → Gave (labelCall dim k row centroids result) len bytes16 0 bytes
-  unfolding labelCall unless codeOf bytesOf
-  label-given len bytes e b = rw e (record { code = refl; bytes = b })
+  unfolding labelCall unless codeOf figureOf
+  label-given len bytes e b = rw e (refl, b)
 
 -- labelling of one row alone, inside the ranges
 one-row : (dim k : ℕ) (row centroids : List Float) (r : LabelAnswer) (cells : List ℕ) → 0 < dim → dim ≤ 64 → 0 < k → k ≤ 64
@@ -186,6 +186,13 @@ one-label dim k row centroids r cells some small one few g =
     one-row dim k (floatsFrom dim row) (floatsFrom (k * dim) centroids) r cells some small one few (floats-length dim row) (floats-length (k * dim) centroids) g
 
 -- ---- k-means: from the enum to the number and the figures
+abbrev pub KMeansGave : Answer Result → ℕ → ℕ → ℕ → List ℕ → List Float → Float → ℕ → Type 0
+KMeansGave answer labelCells centroidCells r labels centroids objective restart =
+    (r ≡ codeOf answer)
+    × ((labels ≡ cellsOf blankCell labelCells (λ (a : Result). a .labels) answer)
+    × ((centroids ≡ cellsOf zero32 centroidCells (λ (a : Result). flatten (a .centroids)) answer)
+    × ((objective ≡ figureOf zero32 (λ (a : Result). a .objective) answer) × (restart ≡ figureOf 0 (λ (a : Result). a .restart) answer))))
+
 module _ (labelCells centroidCells : ℕ) (r : KMeansAnswer) (labels : List ℕ) (centroids : List Float) where
   pub kmeans-accepted : (answer : Answer Result) (o : Float) (n : ℕ) → KMeansGives answer labelCells centroidCells r labels centroids → r ≡ Accepted o n
       → KMeansGave answer labelCells centroidCells 0 labels centroids o n
@@ -193,13 +200,7 @@ module _ (labelCells centroidCells : ℕ) (r : KMeansAnswer) (labels : List ℕ)
   kmeans-accepted (accepted a) o n g e =
       let is : _≡_ {A = Answer (Float × ℕ)} (accepted (o, n)) (accepted (a .objective, a .restart)) = rw e at (g .result) in
       let same : _≡_ {A = Float × ℕ} (o, n) (a .objective, a .restart) = cc in
-      record {
-        code = refl;
-        labelled = g .labelled;
-        centred = g .centred;
-        objective-is = ap (λ (f : Float × ℕ). f .0) same;
-        restart-is = ap (λ (f : Float × ℕ). f .1) same;
-      }
+      (refl, (g .labelled, (g .centred, (ap (λ (f : Float × ℕ). f .0) same, ap (λ (f : Float × ℕ). f .1) same))))
   kmeans-accepted (refused number) o n g e =
       let is : _≡_ {A = Answer (Float × ℕ)} (accepted (o, n)) (refused number) = rw e at (g .result) in
       let z : _≡_ {A = ℕ} 0 1 = cc in
@@ -215,9 +216,17 @@ module _ (labelCells centroidCells : ℕ) (r : KMeansAnswer) (labels : List ℕ)
   kmeans-refused (refused number) n g e =
       let is : _≡_ {A = Answer (Float × ℕ)} (refused n) (refused number) = rw e at (g .result) in
       let same : n ≡ number = cc in
-      record { code = same; labelled = g .labelled; centred = g .centred; objective-is = refl; restart-is = refl }
+      (same, (g .labelled, (g .centred, (refl, refl))))
 
 -- ---- grouping: from the enum to the number and the counts
+abbrev pub GroupGave : Answer Groups → ℕ → List Row → ℕ → ℕ → ℕ → ℕ → List ℕ → List ℕ → List Float → ℕ → ℕ → Type 0
+GroupGave answer dim rows orderCells endCells meanCells r order ends means groups splits =
+    (r ≡ codeOf answer)
+    × ((order ≡ cellsOf blankCell orderCells (λ (g : Groups). flatten (g .groups)) answer)
+    × ((ends ≡ cellsOf blankCell endCells (λ (g : Groups). endsFrom 0 (g .groups)) answer)
+    × ((means ≡ cellsOf zero32 meanCells (λ (g : Groups). flatMap (meanOf dim rows) (g .groups)) answer)
+    × ((groups ≡ figureOf 0 (λ (g : Groups). length (g .groups)) answer) × (splits ≡ figureOf 0 (λ (g : Groups). g .splits) answer)))))
+
 module _ (dim : ℕ) (rows : List Row) (orderCells endCells meanCells : ℕ) (r : GroupingAnswer) (order ends : List ℕ) (means : List Float) where
   pub group-accepted : (answer : Answer Groups) (n m : ℕ) → GroupGives answer dim rows orderCells endCells meanCells r order ends means → r ≡ GroupingAnswer·Accepted n m
       → GroupGave answer dim rows orderCells endCells meanCells 0 order ends means n m
@@ -225,14 +234,7 @@ module _ (dim : ℕ) (rows : List Row) (orderCells endCells meanCells : ℕ) (r 
   group-accepted (accepted a) n m g e =
       let is : _≡_ {A = Answer (ℕ × ℕ)} (accepted (n, m)) (accepted (figures a)) = rw e at (g .result) in
       let same : _≡_ {A = ℕ × ℕ} (n, m) (figures a) = cc in
-      record {
-        code = refl;
-        ordered = g .ordered;
-        ended = g .ended;
-        meant = g .meant;
-        groups-are = ap (λ (f : ℕ × ℕ). f .0) same;
-        splits-are = ap (λ (f : ℕ × ℕ). f .1) same;
-      }
+      (refl, (g .ordered, (g .ended, (g .meant, (ap (λ (f : ℕ × ℕ). f .0) same, ap (λ (f : ℕ × ℕ). f .1) same)))))
   group-accepted (refused number) n m g e =
       let is : _≡_ {A = Answer (ℕ × ℕ)} (accepted (n, m)) (refused number) = rw e at (g .result) in
       let z : _≡_ {A = ℕ} 0 1 = cc in
@@ -248,4 +250,4 @@ module _ (dim : ℕ) (rows : List Row) (orderCells endCells meanCells : ℕ) (r 
   group-refused (refused number) n g e =
       let is : _≡_ {A = Answer (ℕ × ℕ)} (refused n) (refused number) = rw e at (g .result) in
       let same : n ≡ number = cc in
-      record { code = same; ordered = g .ordered; ended = g .ended; meant = g .meant; groups-are = refl; splits-are = refl }
+      (same, (g .ordered, (g .ended, (g .meant, (refl, refl)))))

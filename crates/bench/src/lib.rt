@@ -1,7 +1,7 @@
 // What the bench host calls: numbers and little-endian bytes in, a number and bytes out; and the same calls over typed slices,
 // for comparisons.
 ghost use mathlib.Core.Path.{_≡_};
-ghost use mathlib.Core.List.{List, [], _∷_, _++_, flatMap};
+ghost use mathlib.Core.List.{List, [], _∷_, _++_, flatMap, flatten};
 ghost use Prim.Native.Nat.{ℕ, _+_, _*_, _≤_, _<_};
 ghost use lib.ListN.{length, replicate};
 ghost use Rattle.sums.specs.Refusals.{cellsOf, blankCell, Cleared};
@@ -10,7 +10,9 @@ ghost use Rattle.labels.specs.Call.{labelCall as Call·labelCall};
 ghost use Rattle.closure.specs.Call.{closureCall};
 ghost use Rattle.kmeans.specs.Call.{kmeansCall};
 ghost use Rattle.batch.specs.Batch.{listingOf, putFront};
-ghost use Rattle.bench.specs.Exports.{codeOf, Gave, labelRefusal, labelCall, labelOf, closureRefusal, closureBytesCall, closureWritten, configOf, KMeansGave, GroupGave};
+ghost use Rattle.bench.specs.Exports.{codeOf, Gave, labelRefusal, labelCall, labelOf, closureRefusal, closureBytesCall, closureWritten, configOf, figureOf};
+ghost use Rattle.kmeans.specs.KMeans.{Result};
+ghost use Rattle.grouping.specs.Groups.{Groups, endsFrom, meanOf};
 ghost use Rattle.grouping.specs.Call.{groupingCall};
 ghost use Rattle.grouping.specs.Inside.{ruleOf};
 ghost use Rattle.sums.specs.Rows.{rowsFrom};
@@ -263,7 +265,12 @@ pub extern "C" fn families_kmeans(
     trial_labels: &mut [u16],
     places: &mut [u16],
 ) -> u32
-    ensures { λ r. ⌜ KMeansGave (kmeansCall rows dim k (configOf iterations restarts points block) (now (draws .entry)) (now (values .entry)) (length (now (labels .entry)) ∷ length (now (centroids .entry)) ∷ length (now (training .entry)) ∷ length (now (own .entry)) ∷ length (now («training_own» .entry)) ∷ length (now (distances .entry)) ∷ length (now («trial_labels» .entry)) ∷ length (now (places .entry)) ∷ [])) (length (now (labels .entry))) (length (now (centroids .entry))) r (now (labels .exit)) (now (centroids .exit)) (now (objective .exit)) (now (restart .exit)) ⌝ }
+    ensures { λ r. ⌜ (let answer = kmeansCall rows dim k (configOf iterations restarts points block) (now (draws .entry)) (now (values .entry)) (length (now (labels .entry)) ∷ length (now (centroids .entry)) ∷ length (now (training .entry)) ∷ length (now (own .entry)) ∷ length (now («training_own» .entry)) ∷ length (now (distances .entry)) ∷ length (now («trial_labels» .entry)) ∷ length (now (places .entry)) ∷ []) in
+        (r ≡ codeOf answer)
+        × ((now (labels .exit) ≡ cellsOf blankCell (length (now (labels .entry))) (λ (a : Result). a .labels) answer)
+        × ((now (centroids .exit) ≡ cellsOf zero32 (length (now (centroids .entry))) (λ (a : Result). flatten (a .centroids)) answer)
+        × ((now (objective .exit) ≡ figureOf zero32 (λ (a : Result). a .objective) answer)
+        × (now (restart .exit) ≡ figureOf 0 (λ (a : Result). a .restart) answer))))) ⌝ }
     ensures { λ _. ⌜ Cleared zero32 (now (training .exit)) × (Cleared zero32 (now (own .exit)) × (Cleared zero32 (now («training_own» .exit)) × Cleared zero32 (now (distances .exit)))) ⌝ }
     ensures { λ _. ⌜ Cleared 0 (now («trial_labels» .exit)) × Cleared 0 (now (places .exit)) ⌝ }
 {
@@ -333,7 +340,13 @@ pub extern "C" fn families_group(
     trial_labels: &mut [u16],
     places: &mut [u16],
 ) -> u32
-    ensures { λ r. ⌜ GroupGave (groupingCall (ruleOf (now (draws .entry)) dim (rowsFrom dim rows (now (values .entry))) branching weight) rows limit budget (length (now (values .entry))) (length (now (order .entry)) ∷ length (now (ends .entry)) ∷ length (now (means .entry)) ∷ length (now (waiting .entry)) ∷ length (now (copied .entry)) ∷ length (now (labels .entry)) ∷ length (now (gathered .entry)) ∷ length (now (training .entry)) ∷ length (now (own .entry)) ∷ length (now («training_own» .entry)) ∷ length (now (distances .entry)) ∷ length (now («trial_labels» .entry)) ∷ length (now (places .entry)) ∷ [])) dim (rowsFrom dim rows (now (values .entry))) (length (now (order .entry))) (length (now (ends .entry))) (length (now (means .entry))) r (now (order .exit)) (now (ends .exit)) (now (means .exit)) (now (groups .exit)) (now (splits .exit)) ⌝ }
+    ensures { λ r. ⌜ (let answer = groupingCall (ruleOf (now (draws .entry)) dim (rowsFrom dim rows (now (values .entry))) branching weight) rows limit budget (length (now (values .entry))) (length (now (order .entry)) ∷ length (now (ends .entry)) ∷ length (now (means .entry)) ∷ length (now (waiting .entry)) ∷ length (now (copied .entry)) ∷ length (now (labels .entry)) ∷ length (now (gathered .entry)) ∷ length (now (training .entry)) ∷ length (now (own .entry)) ∷ length (now («training_own» .entry)) ∷ length (now (distances .entry)) ∷ length (now («trial_labels» .entry)) ∷ length (now (places .entry)) ∷ []) in
+        (r ≡ codeOf answer)
+        × ((now (order .exit) ≡ cellsOf blankCell (length (now (order .entry))) (λ (g : Groups). flatten (g .groups)) answer)
+        × ((now (ends .exit) ≡ cellsOf blankCell (length (now (ends .entry))) (λ (g : Groups). endsFrom 0 (g .groups)) answer)
+        × ((now (means .exit) ≡ cellsOf zero32 (length (now (means .entry))) (λ (g : Groups). flatMap (meanOf dim (rowsFrom dim rows (now (values .entry)))) (g .groups)) answer)
+        × ((now (groups .exit) ≡ figureOf 0 (λ (g : Groups). length (g .groups)) answer)
+        × (now (splits .exit) ≡ figureOf 0 (λ (g : Groups). g .splits) answer)))))) ⌝ }
     ensures { λ _. ⌜ Cleared 0 (now (waiting .exit)) × (Cleared 0 (now (copied .exit)) × Cleared 0 (now (labels .exit))) ⌝ }
     ensures { λ _. ⌜ Cleared zero32 (now (gathered .exit)) × Cleared zero32 (now (training .exit)) ⌝ }
     ensures { λ _. ⌜ Cleared zero32 (now (own .exit)) × (Cleared zero32 (now («training_own» .exit)) × Cleared zero32 (now (distances .exit))) ⌝ }

@@ -1,7 +1,7 @@
 -- The turns of the means: division in place, a group's rows added up, the groups one after the other. Assumes nothing.
 use mathlib.Core.Path.{_≡_, refl, sym, ap, _∙_}
-use mathlib.Core.List.{List, [], _∷_, _++_, flatten, flatMap}
-use Prim.Native.Nat.{ℕ, suc, _+_, _-_, _*_, _≤_, _<_}
+use mathlib.Core.List.{List, [], _∷_, _++_, map, foldl, flatten, flatMap}
+use Prim.Native.Nat.{ℕ, zero, suc, _+_, _-_, _*_, _≤_, _<_}
 use native.Mathlib.Numerals.{add-one}
 use native.Mathlib.Nat.{add-sub-cancel-left}
 use native.Mathlib.Omega.{arith}
@@ -17,11 +17,13 @@ use Rattle.sums.proofs.Tables.{over-read, over-more, over-done, map-index}
 use Rattle.sums.specs.Cells.{Below}
 use Rattle.sums.proofs.Rows.{room, part-length}
 use Rattle.sums.proofs.Refusing.{padded-none}
-use Rattle.grouping.specs.Groups.{addRows, dividedBy, meanOf, endsFrom}
-use Rattle.grouping.specs.Inside.{Cut}
+use Rattle.grouping.specs.Groups.{meanOf, endsFrom}
 use Rattle.grouping.proofs.Stretches.{flatten-part, flatMap-snoc, flatMap-length, padded-part, ends-length, start-is, end-is}
 
 -- ---- division in place
+abbrev pub dividedBy : ℕ → Row → Row
+dividedBy count sums = map (λ s. div binary32 s (count32 count)) sums
+
 abbrev pub quotient : ℕ → Row → ℕ → Float
 quotient count sums j = div binary32 (getD sums j nan) (count32 count)
 
@@ -31,11 +33,13 @@ divide-more count s₀ s i h e =
     rw e (over-more (quotient count s₀) s₀ i (quotient count (tabulate (quotient count s₀) i ++ drop i s₀) i) h (rw (over-read (quotient count s₀) s₀ i nan h)))
 
 pub divide-end : (count : ℕ) (s₀ s : Row) (i : ℕ) → i ≡ length s₀ → s ≡ tabulate (quotient count s₀) i ++ drop i s₀ → s ≡ dividedBy count s₀
-unfolding dividedBy
 divide-end count s₀ s i e h =
     h ∙ over-done (quotient count s₀) s₀ i (omega arith) ∙ rw e (sym (map-index (λ x. div binary32 x (count32 count)) s₀ nan))
 
 -- ---- a group's rows added
+abbrev pub addRows : Row → List Row → Row
+addRows sums rows = foldl addRow sums rows
+
 pub add-length : (a b : Row) → length (addRow a b) ≡ length a
 unfolding addRow
 add-length [] b = refl
@@ -43,23 +47,20 @@ add-length (x ∷ a) [] = refl
 add-length (x ∷ a) (y ∷ b) = ap suc (add-length a b)
 
 rows-length : (sums : Row) (rows : List Row) → length (addRows sums rows) ≡ length sums
-unfolding addRows
 rows-length sums [] = refl
 rows-length sums (r ∷ rows) = rows-length (addRow sums r) rows ∙ add-length sums r
 
 pub mean-length : (dim : ℕ) (rows : List Row) (group : List ℕ) → length (meanOf dim rows group) ≡ dim
-unfolding meanOf dividedBy
+unfolding meanOf
 mean-length dim rows group =
     length-map (addRows (zeroRow dim) (rowsAt rows group)) (λ s. div binary32 s (count32 (length group)))
     ∙ rows-length (zeroRow dim) (rowsAt rows group) ∙ length-replicate dim zero32
 
 pub rows-more : (rows : List Row) (group : List ℕ) (mean whole : Row) (i : ℕ) → i < length group → addRows mean (rowsAt rows (drop i group)) ≡ whole
     → addRows (addRow mean (getD rows (getD group i 0) [])) (rowsAt rows (drop (i + 1) group)) ≡ whole
-unfolding addRows
 rows-more rows group mean whole i h e = rw (add-one i) (rw (drop-cons group i 0 h) at e)
 
 pub rows-end : (rows : List Row) (group : List ℕ) (mean whole : Row) (i : ℕ) → length group ≤ i → addRows mean (rowsAt rows (drop i group)) ≡ whole → mean ≡ whole
-unfolding addRows
 rows-end rows group mean whole i h e = rw (drop-of-length-le group {i = i} h) at e
 
 -- the row that is added lies inside
@@ -76,6 +77,11 @@ pub record Filling (values : Row) (dim : ℕ) (order ends : List ℕ) (groups : 
   pub begin : start ≡ getD (0 ∷ take groups ends) g 0
   pub filled : (gs : List (List ℕ)) → order ≡ flatten gs → take groups ends ≡ endsFrom 0 gs
       → means ≡ padded zero32 (length means₀) (flatMap (meanOf dim (rowsFrom dim (length order) values)) (take g gs))
+
+-- where a group starts, read in the front of the ends or in all of them
+pub heads : (groups : ℕ) (ends : List ℕ) (i : ℕ) → i < groups → getD (0 ∷ take groups ends) i 0 ≡ getD (0 ∷ ends) i 0
+heads groups ends zero h = refl
+heads groups ends (suc i) h = getD-take groups ends i 0 (omega arith)
 
 pub filling-start : (values : Row) (dim : ℕ) (order ends : List ℕ) (groups : ℕ) (means : Row) → means ≡ replicate (length means) zero32
     → Filling values dim order ends groups means means 0 0
@@ -96,17 +102,14 @@ module _ {values : Row} {dim : ℕ} {order ends : List ℕ} {groups : ℕ} {mean
       → means ≡ padded zero32 (length means₀) (flatMap (meanOf dim (rowsFrom dim (length order) values)) gs)
   filling-end k gs p q = h .filled gs p q ∙ rw (take-all g gs (omega (arith, as-many gs q)))
 
-  module _ (cut : Cut (length order) order (take groups ends)) (rows : length ends ≡ length order) (cells : length means₀ ≡ length order * dim) (p : g < groups)
+  module _ (cut : Below (length order) order × ((i : ℕ) → i < groups → (getD (0 ∷ ends) i 0 ≤ getD ends i 0) × (getD ends i 0 ≤ length order))) (rows : length ends ≡ length order) (cells : length means₀ ≡ length order * dim) (p : g < groups)
       (end : ℕ) (q : end ≡ getD ends g 0) where
     end-at : end ≡ getD (take groups ends) g 0
     end-at = q ∙ sym (getD-take groups ends g 0 p)
 
-    listed : g < length (take groups ends)
-    listed = rw (length-take-le groups ends fits) p
-
     pub filling-room : ((start ≤ end) × (end ≤ length order)) × (g * dim + dim ≤ length means)
     filling-room = (
-      (rw (h .begin, end-at) (cut .ascend g listed), rw end-at (cut .reach g listed)),
+      (omega (arith, h .begin, heads groups ends g p, q, cut .1 g p .0), omega (arith, q, cut .1 g p .1)),
       omega (arith, h .size, room g (length order) dim (omega arith)),
     )
 

@@ -6,18 +6,19 @@ use Prim.Native.Nat.{ℕ, zero, suc, _+_, _-_, _*_, _≤_, _<_}
 use native.Mathlib.Omega.{arith}
 use lib.Ieee.{Float}
 use lib.ListN.{length, getD, take, replicate, length-append}
-use lib.Seq.{take-at}
+use lib.Seq.{take-at, getD-take}
 use Rattle.sums.specs.Rows.{Row, rowsFrom}
 use Rattle.sums.specs.Cells.{Below}
 use Rattle.sums.specs.Sums.{zero32}
 use Rattle.sums.specs.Refusals.{Answer, accepted, refused, unless, onAccepted, padded, cellsOf, blankCell}
 use Rattle.sums.proofs.Refusing.{both, within-is, same-is, passed, padded-all, padded-none}
-use Rattle.kmeans.specs.Inside.{Limits}
+use Rattle.steps.specs.Inside.{Limits}
 use Rattle.grouping.specs.declared.call.GroupingAnswer.{GroupingAnswer}
 use Rattle.grouping.specs.declared.call.GroupingAnswer.the-variants.{Accepted, Refused}
 use Rattle.grouping.specs.Groups.{Rule, Groups, grouping, endsFrom, meanOf}
-use Rattle.grouping.specs.Inside.{workOf, Listed, Grouped, Cut, ruleOf}
+use Rattle.grouping.specs.Inside.{workOf, Grouped, ruleOf}
 use Rattle.grouping.specs.Call.{rangesFit, lengthsFit, groupingRefusal, groupingCall, figures, told, Gives}
+use Rattle.grouping.proofs.Averages.{heads}
 use Rattle.grouping.proofs.Stretches.{padded-is, ends-length, start-is, end-is}
 
 -- ---- the numbers of a call that refusal 1 lets through
@@ -100,36 +101,39 @@ pub record Taken (answer : Answer Groups) (n groups splits : ℕ) (order ends : 
   pub fits : groups ≤ n
 
 pub taken : (answer : Answer Groups) (n groups splits : ℕ) (order ends : List ℕ) → Grouped answer n (Accepted groups splits) order ends → Taken answer n groups splits order ends
-unfolding onAccepted Listed
+unfolding onAccepted
 taken (accepted g) n groups splits order ends h =
     let gs = g .groups in
+    let l = h .listed g refl in
     let z : _≡_ {A = ℕ × ℕ} (groups, splits) (figures g) = let r = h .result in cc in
     let m : groups ≡ length gs = ap (λ (f : ℕ × ℕ). f .0) z in
-    let w : n ≡ length (endsFrom 0 gs) + (n - length gs) = omega (arith, h .listed .1 .1 .1, ends-length 0 gs) in
+    let w : n ≡ length (endsFrom 0 gs) + (n - length gs) = omega (arith, l .1 .1 .1, ends-length 0 gs) in
     record {
       g = g;
       is = refl;
       many = sym m;
-      laid = h .listed .0;
-      cells = h .listed .1 .0;
-      ended = rw (m, h .listed .1 .0, padded-is blankCell n (n - length gs) (endsFrom 0 gs) w) (take-at (endsFrom 0 gs) (replicate (n - length gs) blankCell) (length gs) (ends-length 0 gs));
-      below = h .listed .1 .1 .0;
-      fits = omega (arith, m, h .listed .1 .1 .1);
+      laid = l .0;
+      cells = l .1 .0;
+      ended = rw (m, l .1 .0, padded-is blankCell n (n - length gs) (endsFrom 0 gs) w) (take-at (endsFrom 0 gs) (replicate (n - length gs) blankCell) (length gs) (ends-length 0 gs));
+      below = l .1 .1 .0;
+      fits = omega (arith, m, l .1 .1 .1);
     }
 taken (refused number) n groups splits order ends h =
     let r = h .result in
     let z : _≡_ {A = ℕ} 0 1 = cc in
     absurd (omega arith)
 
-pub cut : {answer : Answer Groups} {groups splits : ℕ} {order ends : List ℕ} → Taken answer (length order) groups splits order ends → Cut (length order) order (take groups ends)
+pub cut : {answer : Answer Groups} {groups splits : ℕ} {order ends : List ℕ} → Taken answer (length order) groups splits order ends
+    → Below (length order) order × ((i : ℕ) → i < groups → (getD (0 ∷ ends) i 0 ≤ getD ends i 0) × (getD ends i 0 ≤ length order))
 cut {groups = groups} {order = order} {ends = ends} t =
-    let gs = t .g .groups in
-    let n : length (take groups ends) ≡ length gs = ap length (t .ended) ∙ ends-length 0 gs in
-    record {
-      below = t .below;
-      ascend = λ i h. rw (t .ended) (omega (arith, start-is 0 gs i (omega (arith, n, h)), end-is 0 gs i (omega (arith, n, h))));
-      reach = λ i h. rw (t .ended) (omega (arith, end-is 0 gs i (omega (arith, n, h)), part-within gs i (omega (arith, n, h)), ap length (t .laid)));
-    }
+    let gs = t .g .groups in (
+      t .below,
+      λ i h.
+          let s : getD (0 ∷ ends) i 0 ≡ getD (0 ∷ endsFrom 0 gs) i 0 = sym (heads groups ends i h) ∙ ap (λ (l : List ℕ). getD (0 ∷ l) i 0) (t .ended) in
+          let e : getD ends i 0 ≡ getD (endsFrom 0 gs) i 0 = sym (getD-take groups ends i 0 h) ∙ ap (λ (l : List ℕ). getD l i 0) (t .ended) in
+          let k : i < length gs = omega (arith, t .many) in
+          (omega (arith, s, e, start-is 0 gs i (omega (arith, k)), end-is 0 gs i k), omega (arith, e, end-is 0 gs i k, part-within gs i k, ap length (t .laid))),
+    )
 
 module _ (answer : Answer Groups) (dim : ℕ) (values : List Float) (order ends : List ℕ) (meanCells : ℕ) where
   pub gives-listed : (groups splits : ℕ) (means : List Float) → length ends ≡ length order → Grouped answer (length order) (Accepted groups splits) order ends

@@ -12,14 +12,14 @@ use lib.Dec.{eqb}
 use lib.ListN.{length, getD, take, length-append}
 use lib.Seq.{take-suc, take-all}
 use Rattle.sums.specs.Tables.{upTo}
-use Rattle.sums.specs.Refusals.{Answer, accepted, refused}
+use Rattle.sums.specs.Refusals.{Answer, accepted, refused, onAccepted}
 use Rattle.sums.proofs.Tables.{up-length}
 use Rattle.sums.proofs.Weighs.{weigh, one, countOf, Same, weigh-append, same-length, same-count}
 use Rattle.sums.proofs.Picks.{below-up}
 use Rattle.sums.proofs.Counts.{count-below}
 use Rattle.sums.proofs.Pairs.{All, all-weaken}
 use Rattle.parts.specs.Parts.{flat}
-use Rattle.grouping.specs.Groups.{Groups, waits, pushed, after, more, groupFrom, endsFrom}
+use Rattle.grouping.specs.Groups.{Groups, waits, pushed, after, groupFrom, endsFrom}
 use Rattle.grouping.proofs.Stretches.{flatten-snoc, end-is}
 use Rattle.grouping.proofs.Steps.{Full, full-pushed, full-count, flatten-pushed, group-end, group-list, group-six, group-seven, group-split, group-all}
 
@@ -153,8 +153,8 @@ module _ (parts : ℕ → List ℕ → List (List ℕ)) (made : ℕ → List ℕ
   by left n w = groupFrom parts made limit branching left n w
 
   -- ---- each refusal, and the acceptance, comes exactly then
-  ending-list : (left n : ℕ) (g : List ℕ) (gs : List (List ℕ)) (a : Answer Groups) → length g ≤ limit → Ending left n gs a → Ending left n (g ∷ gs) (after (g ∷ []) a)
-  unfolding after
+  ending-list : (left n : ℕ) (g : List ℕ) (gs : List (List ℕ)) (a : Answer Groups) → length g ≤ limit → Ending left n gs a → Ending left n (g ∷ gs) (after (g ∷ []) 0 a)
+  unfolding after onAccepted
   ending-list left n g gs (accepted r) h e = record { left′ = e .left′; n′ = e .n′; comes = listing h (e .comes) }
   ending-list left n g gs (refused number) h (inl e) =
       inl (e .0, record { left′ = e .1 .left′; n′ = e .1 .n′; g = e .1 .g; gs = e .1 .gs; comes = listing h (e .1 .comes); oversize = e .1 .oversize; few = e .1 .few })
@@ -162,8 +162,8 @@ module _ (parts : ℕ → List ℕ → List (List ℕ)) (made : ℕ → List ℕ
       inr (e .0, record { n′ = e .1 .n′; g = e .1 .g; gs = e .1 .gs; comes = listing h (e .1 .comes); oversize = e .1 .oversize; enough = e .1 .enough })
 
   ending-split : (left n : ℕ) (g : List ℕ) (gs : List (List ℕ)) (a : Answer Groups) → limit < length g → branching ≤ length g
-      → Ending left (made n g) (pushed (parts n g) gs) a → Ending (suc left) n (g ∷ gs) (more a)
-  unfolding more
+      → Ending left (made n g) (pushed (parts n g) gs) a → Ending (suc left) n (g ∷ gs) (after [] 1 a)
+  unfolding after onAccepted
   ending-split left n g gs (accepted r) h k e = record { left′ = e .left′; n′ = e .n′; comes = splitting h k (e .comes) }
   ending-split left n g gs (refused number) h k (inl e) =
       inl (e .0, record { left′ = e .1 .left′; n′ = e .1 .n′; g = e .1 .g; gs = e .1 .gs; comes = splitting h k (e .1 .comes); oversize = e .1 .oversize; few = e .1 .few })
@@ -182,7 +182,7 @@ module _ (parts : ℕ → List ℕ → List (List ℕ)) (made : ℕ → List ℕ
 
   -- What a grouping comes to decides its refusal.
   comes-refused : {left n left′ n′ : ℕ} {w v : List (List ℕ)} (number : ℕ) → Comes left n w left′ n′ v → by left′ n′ v ≡ refused number → by left n w ≡ refused number
-  unfolding after more
+  unfolding after onAccepted
   comes-refused number here e = e
   comes-refused number (listing {left = left} {n = n} {g = g} {gs = gs} h c) e = rw (group-list parts made limit branching n g gs left h, comes-refused number c e)
   comes-refused number (splitting {left = left} {n = n} {g = g} {gs = gs} h k c) e = rw (group-split parts made limit branching n g gs left h k, comes-refused number c e)
@@ -210,20 +210,15 @@ module _ (parts : ℕ → List ℕ → List (List ℕ)) (made : ℕ → List ℕ
       go (inr s) = s .1
 
   -- Accepted exactly when it comes to where none waits.
-  passes-after : (l : List (List ℕ)) (a : Answer Groups) → Passes a → Passes (after l a)
-  unfolding after
-  passes-after l (accepted g) p = tt
-  passes-after l (refused number) p = p
-
-  passes-more : (a : Answer Groups) → Passes a → Passes (more a)
-  unfolding more
-  passes-more (accepted g) p = tt
-  passes-more (refused number) p = p
+  passes-after : (l : List (List ℕ)) (s : ℕ) (a : Answer Groups) → Passes a → Passes (after l s a)
+  unfolding after onAccepted
+  passes-after l s (accepted g) p = tt
+  passes-after l s (refused number) p = p
 
   comes-passes : {left n left′ n′ : ℕ} {w v : List (List ℕ)} → Comes left n w left′ n′ v → Passes (by left′ n′ v) → Passes (by left n w)
   comes-passes here p = p
-  comes-passes (listing {left = left} {n = n} {g = g} {gs = gs} h c) p = rw (group-list parts made limit branching n g gs left h) (passes-after (g ∷ []) _ (comes-passes c p))
-  comes-passes (splitting {left = left} {n = n} {g = g} {gs = gs} h k c) p = rw (group-split parts made limit branching n g gs left h k) (passes-more _ (comes-passes c p))
+  comes-passes (listing {left = left} {n = n} {g = g} {gs = gs} h c) p = rw (group-list parts made limit branching n g gs left h) (passes-after (g ∷ []) 0 _ (comes-passes c p))
+  comes-passes (splitting {left = left} {n = n} {g = g} {gs = gs} h k c) p = rw (group-split parts made limit branching n g gs left h k) (passes-after [] 1 _ (comes-passes c p))
 
   pub accepted-when : (left n : ℕ) (w : List (List ℕ)) → Done left n w → Passes (by left n w)
   accepted-when left n w d = comes-passes (d .comes) (rw (group-end parts made limit branching (d .left′) (d .n′)) tt)
@@ -240,25 +235,25 @@ module _ (parts : ℕ → List ℕ → List (List ℕ)) (made : ℕ → List ℕ
       go (inr s) = inr (s .0)
 
   -- ---- the budget
-  steady-list : (left n : ℕ) (g : List ℕ) (gs : List (List ℕ)) (a : Answer Groups) → length g ≤ limit → Steady left (λ c. by c n gs) a → Steady left (λ c. by c n (g ∷ gs)) (after (g ∷ []) a)
-  unfolding after
+  steady-list : (left n : ℕ) (g : List ℕ) (gs : List (List ℕ)) (a : Answer Groups) → length g ≤ limit → Steady left (λ c. by c n gs) a → Steady left (λ c. by c n (g ∷ gs)) (after (g ∷ []) 0 a)
+  unfolding after onAccepted
   steady-list left n g gs (accepted r) h s = (
-    s .0,
-    ((λ c p. rw (group-list parts made limit branching n g gs c h, s .1 .0 c p)), (λ c p. rw (group-list parts made limit branching n g gs c h, s .1 .1 c p))),
+    omega (arith, s .0),
+    ((λ c p. rw (group-list parts made limit branching n g gs c h, s .1 .0 c (omega arith))), (λ c p. rw (group-list parts made limit branching n g gs c h, s .1 .1 c (omega arith)))),
   )
   steady-list left n g gs (refused number) h (inl s) = inl (s .0, λ c p. rw (group-list parts made limit branching n g gs c h, s .1 c p))
   steady-list left n g gs (refused number) h (inr s) = inr (s .0, λ c p. rw (group-list parts made limit branching n g gs c h, s .1 c p))
 
   steady-split : (left n : ℕ) (g : List ℕ) (gs : List (List ℕ)) (a : Answer Groups) → limit < length g → branching ≤ length g
-      → Steady left (λ c. by c (made n g) (pushed (parts n g) gs)) a → Steady (suc left) (λ c. by c n (g ∷ gs)) (more a)
-  unfolding more
+      → Steady left (λ c. by c (made n g) (pushed (parts n g) gs)) a → Steady (suc left) (λ c. by c n (g ∷ gs)) (after [] 1 a)
+  unfolding after onAccepted
   steady-split left n g gs (accepted r) h k s = (omega (arith, s .0), (up, down))
     where
-      up : (c : ℕ) → suc (r .splits) ≤ c → by c n (g ∷ gs) ≡ accepted (record { groups = r .groups; splits = suc (r .splits) })
+      up : (c : ℕ) → 1 + r .splits ≤ c → by c n (g ∷ gs) ≡ accepted (record { groups = r .groups; splits = 1 + r .splits })
       up zero p = absurd (omega arith)
       up (suc c) p = rw (group-split parts made limit branching n g gs c h k, s .1 .0 c (omega arith))
 
-      down : (c : ℕ) → c < suc (r .splits) → by c n (g ∷ gs) ≡ refused 7
+      down : (c : ℕ) → c < 1 + r .splits → by c n (g ∷ gs) ≡ refused 7
       down zero p = group-seven parts made limit branching n g gs h k
       down (suc c) p = rw (group-split parts made limit branching n g gs c h k, s .1 .1 c (omega arith))
   steady-split left n g gs (refused number) h k (inl s) = inl (s .0, up)
@@ -326,8 +321,8 @@ module _ (parts : ℕ → List ℕ → List (List ℕ)) (made : ℕ → List ℕ
     abbrev Goes : List (List ℕ) → Answer Groups → Type 0
     Goes w a = All Full w → length (flatten w) ≤ most → Good w a
 
-    good-list : (left n : ℕ) (g : List ℕ) (gs : List (List ℕ)) (a : Answer Groups) → length g ≤ limit → Goes gs a → Goes (g ∷ gs) (after (g ∷ []) a)
-    unfolding after flatten
+    good-list : (left n : ℕ) (g : List ℕ) (gs : List (List ℕ)) (a : Answer Groups) → length g ≤ limit → Goes gs a → Goes (g ∷ gs) (after (g ∷ []) 0 a)
+    unfolding after onAccepted flatten
     good-list left n g gs (accepted r) h good f b =
         let s = good (f .1) (list-few g gs b) in
         record {
@@ -337,8 +332,8 @@ module _ (parts : ℕ → List ℕ → List (List ℕ)) (made : ℕ → List ℕ
     good-list left n g gs (refused number) h good f b = tt
 
     good-split : (left n : ℕ) (g : List ℕ) (gs : List (List ℕ)) (a : Answer Groups) → limit < length g → branching ≤ length g
-        → Goes (pushed (parts n g) gs) a → Goes (g ∷ gs) (more a)
-    unfolding more
+        → Goes (pushed (parts n g) gs) a → Goes (g ∷ gs) (after [] 1 a)
+    unfolding after onAccepted
     good-split left n g gs (accepted r) h k good f b =
         let s = good (full-pushed (parts n g) gs (f .1)) (split-few n g gs k b) in
         record { same = λ x. s .same x ∙ split-same n g gs k b x; sized = s .sized }

@@ -2,7 +2,7 @@
 use mathlib.Core.Path.{_≡_}
 use mathlib.Core.List.{List, [], _∷_}
 use Prim.Native.Nat.{ℕ, _*_, _≤_, _<_}
-use Rattle.kmeans.specs.Inside.{Limits}
+use Rattle.steps.specs.Inside.{Limits}
 use Rattle.grouping.specs.Inside.{workOf}
 
 -- how long the slices of a split of n rows into k parts are

@@ -17,7 +17,7 @@ use Rattle.kmeans.specs.declared.config.KMeansConfig.{KMeansConfig}
 use Rattle.kmeans.specs.declared.restart.Kept.{Kept}
 use Rattle.kmeans.specs.KMeans.{Result, forGrouping}
 use Rattle.kmeans.specs.Call.{lengthsOf}
-use Rattle.kmeans.specs.Inside.{Limits}
+use Rattle.steps.specs.Inside.{Limits}
 use Rattle.kmeans.proofs.Restarts.{Ran}
 use Rattle.kmeans.proofs.Promises.{labels-below}
 use Rattle.parts.specs.Parts.{gathered, sizesOf, flat}

@@ -24,12 +24,14 @@ use Rattle.sums.proofs.Pairs.{All, all-append}
 use Rattle.parts.specs.Parts.{flat, sizesOf}
 use Rattle.grouping.specs.Groups.{Rule, Groups, partsOf, madeBy, waits, pushed, after, groupFrom, grouping, endsFrom}
 use Rattle.parts.specs.Inside.{total}
-use Rattle.grouping.specs.Inside.{tops, pushes, ruleOf, Listed, Grouped}
+use Rattle.grouping.specs.Inside.{tops, pushes, ruleOf, Grouped}
 use Rattle.grouping.proofs.Rooms.{SplitRoom, GroupRoom}
 use Rattle.grouping.proofs.Splits.{Split}
+use Rattle.grouping.specs.declared.call.GroupingAnswer.{GroupingAnswer}
 use Rattle.grouping.specs.declared.call.GroupingAnswer.the-variants.{Accepted, Refused}
+use Rattle.grouping.specs.Call.{figures, told}
 use Rattle.grouping.proofs.Stretches.{flatten-snoc, mid-at, put-at, ends-length, ends-snoc}
-use Rattle.grouping.proofs.Steps.{Full, full-pushed, full-count, flatten-pushed, plus, group-end, group-list, group-six, group-seven, group-split, sofar-none, sofar-list, sofar-more, sofar-end}
+use Rattle.grouping.proofs.Steps.{Full, full-pushed, full-count, flatten-pushed, group-end, group-list, group-six, group-seven, group-split, sofar-none, sofar-list, sofar-more, sofar-end}
 
 -- ---- the stack
 tops-length : (s : ℕ) (w : List (List ℕ)) → length (tops s w) ≡ length w
@@ -64,7 +66,7 @@ pub record State (parts : ℕ → List ℕ → List (List ℕ)) (made : ℕ → 
   pub many : groups ≡ length listed
   pub waiting-full : All Full w
   pub listed-full : All Full listed
-  pub result : after listed (plus splits (groupFrom parts made limit k (budget - splits) n w)) ≡ whole
+  pub result : after listed splits (groupFrom parts made limit k (budget - splits) n w) ≡ whole
 
 module _
     {parts : ℕ → List ℕ → List (List ℕ)} {made : ℕ → List ℕ → ℕ} {limit k budget : ℕ} {whole : Answer Groups} {rows : ℕ} {listed : List (List ℕ)} {g : List ℕ}
@@ -119,7 +121,7 @@ module _
       waiting-full = st .waiting-full .1;
       listed-full = all-append Full listed (g ∷ []) (st .listed-full) (st .waiting-full .0, tt);
       result =
-          sym (ap (λ z. after listed (plus splits z)) (group-list parts made limit k n g gs (budget - splits) h) ∙ sofar-list listed splits g (groupFrom parts made limit k (budget - splits) n gs))
+          sym (ap (λ z. after listed splits z) (group-list parts made limit k n g gs (budget - splits) h) ∙ sofar-list listed splits g (groupFrom parts made limit k (budget - splits) n gs))
           ∙ st .result;
     }
 
@@ -157,18 +159,18 @@ module _
           listed-full = st .listed-full;
           result =
               sym
-              (ap (λ o. after listed (plus splits o)) (group-split parts made limit k n g gs (budget - (splits + 1)) big enough)
+              (ap (λ o. after listed splits o) (group-split parts made limit k n g gs (budget - (splits + 1)) big enough)
               ∙ sofar-more listed splits (groupFrom parts made limit k (budget - (splits + 1)) (made n g) v))
               ∙ (rw z at (st .result));
         }
 
   -- what is refused
   pub refuse-six : limit < length g → length g < k → whole ≡ refused 6
-  unfolding after
+  unfolding after onAccepted
   refuse-six p q = sym (st .result) ∙ rw (group-six parts made limit k n g gs (budget - splits) p q)
 
   pub refuse-seven : splits ≡ budget → limit < length g → k ≤ length g → whole ≡ refused 7
-  unfolding after
+  unfolding after onAccepted
   refuse-seven e p q =
       let z : budget - splits ≡ 0 = omega arith in
       sym (st .result) ∙ rw (z, group-seven parts made limit k n g gs p q)
@@ -291,6 +293,21 @@ module _
         place-cells = sym (fits .places-long);
       })
 
+-- ---- what is told and left, where the answer is known
+abbrev Laid : ℕ → List ℕ → List ℕ → Groups → Type 0
+Laid n order ends g = (order ≡ flatten (g .groups)) × ((ends ≡ padded blankCell n (endsFrom 0 (g .groups))) × (Below n order × (length (g .groups) ≤ n)))
+
+module _ {answer : Answer Groups} {n : ℕ} {r : GroupingAnswer} {order ends : List ℕ} where
+  grouped-accepted : (g : Groups) → answer ≡ accepted g → told r ≡ onAccepted figures (accepted g) → Laid n order ends g → Grouped answer n r order ends
+  grouped-accepted g e t l = record {
+    result = t ∙ ap (onAccepted figures) (sym e);
+    listed = λ h f. let z : g ≡ h = cc in subst (λ (x : Groups). Laid n order ends x) z l;
+  }
+
+  grouped-refused : (number : ℕ) → answer ≡ refused number → told r ≡ refused number → Grouped answer n r order ends
+  unfolding onAccepted
+  grouped-refused number e t = record { result = t ∙ rw e; listed = λ g f. let z : _≡_ {A = ℕ} 0 1 = cc in absurd (omega arith) }
+
 -- ---- what the loop keeps
 pub record Clustering (rule : Rule) (limit budget rows : ℕ) (order waiting ends : List ℕ) (top groups splits start : ℕ) (cursor : Cursor) : Type 0 where
   pub room : groups + top ≤ rows
@@ -323,10 +340,10 @@ module _
 
   -- all groups are listed
   pub clustering-end : top ≤ 0 → Grouped (grouping rule limit budget) rows (Accepted groups splits) order ends
-  unfolding onAccepted Listed
+  unfolding onAccepted
   clustering-end p =
       let a = all-listed (h .state) p in
-      rw (a .0) (record { result = rw (a .1 .1 .1); listed = (a .1 .0, (a .1 .1 .0, (h .below, omega (arith, a .1 .1 .1, h .room)))) })
+      grouped-accepted _ (a .0) (rw (a .1 .1 .1)) (a .1 .0, (a .1 .1 .0, (h .below, omega (arith, a .1 .1 .1, h .room))))
 
   module _ (p : 0 < top) (long : length order ≡ rows) (end : ℕ) (q : end ≡ getD waiting (top - 1) 0) where
     end-top : end ≡ start + length (open-up p .g)
@@ -352,18 +369,16 @@ module _
         }
 
     pub clustering-six : limit < end - start → end - start < rule .branching → Grouped (grouping rule limit budget) rows (Refused 6) order ends
-    unfolding onAccepted Listed
     clustering-six f k =
         let o = open-up p in
         let e = end-top in
-        rw (refuse-six (o .st) (omega arith) (omega arith)) (record { result = refl; listed = tt })
+        grouped-refused _ (refuse-six (o .st) (omega arith) (omega arith)) refl
 
     pub clustering-seven : limit < end - start → rule .branching ≤ end - start → splits ≡ budget → Grouped (grouping rule limit budget) rows (Refused 7) order ends
-    unfolding onAccepted Listed
     clustering-seven f k b =
         let o = open-up p in
         let e = end-top in
-        rw (refuse-seven (o .st) b (omega arith) (omega arith)) (record { result = refl; listed = tt })
+        grouped-refused _ (refuse-seven (o .st) b (omega arith) (omega arith)) refl
 
     module _ {next : Cursor} {last sizes : List ℕ} (s : Split rule rows (midOf start (end - start) order) cursor next last sizes) (same : length last ≡ length (midOf start (end - start) order)) where
       pub split-room : (top - 1 + length (pushes end sizes) ≤ rows) × (total sizes ≤ end)
@@ -416,11 +431,11 @@ module _ (draws : List ℕ) (dim : ℕ) (values : Row) (k : ℕ) (weight : Float
   whole-is = ap (λ (l : List ℕ). groupFrom (partsOf ruled) (madeBy ruled) limit k budget 0 (waits l [])) (up ∙ ap upTo (sym (rows-length dim (length order) values)))
 
   pub clustering-none : (ends : List ℕ) → length order ≡ 0 → length ends ≡ length order → Grouped (grouping ruled limit budget) (length order) (Accepted 0 0) order ends
-  unfolding onAccepted Listed flatten endsFrom padded
+  unfolding onAccepted flatten endsFrom padded
   clustering-none ends z e =
       let a : grouping ruled limit budget ≡ accepted (record { groups = []; splits = 0 })
       = sym whole-is ∙ rw (waits-none order z) (group-end (partsOf ruled) (madeBy ruled) limit k budget 0) in
-      rw (a, z) (record { result = refl; listed = (empty order z, (empty ends (e ∙ z), ((λ i p. absurd (omega (arith, p, z))), omega arith))) })
+      grouped-accepted _ a refl (empty order z, (rw z (empty ends (e ∙ z)), ((λ i p. absurd (omega (arith, p, z))), omega arith)))
     where
       empty : (l : List ℕ) → length l ≡ 0 → l ≡ []
       empty [] h = refl

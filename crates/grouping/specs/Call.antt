@@ -13,14 +13,11 @@ use Rattle.grouping.specs.declared.call.GroupingAnswer.the-variants.{Acc
 use Rattle.grouping.specs.Groups.{Rule, Groups, grouping, endsFrom, meanOf}
 
 unfoldable pub rangesFit : ℕ → ℕ → ℕ → ℕ → ℕ → Bool
-rangesFit rows dim limit branching budget =
-    within 0 4096 rows && within 1 64 dim && within 0 4096 limit && within 1 64 branching && within 0 8192 budget
+rangesFit rows dim limit branching budget = within 0 4096 rows && within 1 64 dim && within 0 4096 limit && within 1 64 branching && within 0 8192 budget
 
 -- the lengths of what is lent: the row order, the group ends and the means; then the work slices, in docs/BUFFERS.md's order
 abbrev pub lengthsOf : ℕ → ℕ → List ℕ
-lengthsOf rows dim =
-    let cells = rows * dim in
-    rows ∷ rows ∷ cells ∷ rows ∷ rows ∷ rows ∷ cells ∷ cells ∷ rows ∷ rows ∷ rows ∷ rows ∷ rows ∷ []
+lengthsOf rows dim = rows ∷ rows ∷ rows * dim ∷ rows ∷ rows ∷ rows ∷ rows * dim ∷ rows * dim ∷ rows ∷ rows ∷ rows ∷ rows ∷ rows ∷ []
 
 unfoldable pub lengthsFit : ℕ → ℕ → ℕ → List ℕ → Bool
 lengthsFit rows dim values lent = sameAll (values ∷ lent) (rows * dim ∷ lengthsOf rows dim)

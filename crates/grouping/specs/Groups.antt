@@ -1,6 +1,6 @@
 -- 01, 'Grouping': groups are lists of row numbers; of the waiting ones the last put to wait stands first.
 use mathlib.Core.Bool.{Bool, true, false, cond}
-use mathlib.Core.List.{List, [], _∷_, _++_, map, flatMap}
+use mathlib.Core.List.{List, [], _∷_, _++_, map, foldl}
 use Prim.Native.Nat.{ℕ, zero, suc, _+_}
 use lib.Dec.{ltb, leb}
 use lib.ListN.{length}
@@ -8,7 +8,7 @@ use lib.Ieee.{Float, binary32, div, lt}
 use Rattle.sums.specs.Tables.{upTo}
 use Rattle.sums.specs.Rows.{Row, rowsAt}
 use Rattle.sums.specs.Sums.{zero32, count32, addRow, zeroRow}
-use Rattle.sums.specs.Refusals.{Answer, accepted, refused}
+use Rattle.sums.specs.Refusals.{Answer, accepted, refused, onAccepted}
 use Rattle.kmeans.specs.KMeans.{kmeans, forGrouping}
 use Rattle.parts.specs.Parts.{gathered}
 use Rattle.parts.specs.Balance.{share, balance}
@@ -52,14 +52,9 @@ pub record Groups : Type 0 where
   pub groups : List (List ℕ)
   pub splits : ℕ
 
--- groups listed before the others; one split done before the others
-unfoldable pub after : List (List ℕ) → Answer Groups → Answer Groups
-after listed (accepted g) = accepted (record { groups = listed ++ g .groups; splits = g .splits })
-after listed (refused number) = refused number
-
-unfoldable pub more : Answer Groups → Answer Groups
-more (accepted g) = accepted (record { groups = g .groups; splits = suc (g .splits) })
-more (refused number) = refused number
+-- what a grouping gives where groups were listed and splits done before it
+unfoldable pub after : List (List ℕ) → ℕ → Answer Groups → Answer Groups
+after listed splits answer = onAccepted (λ (g : Groups). record { groups = listed ++ g .groups; splits = splits + g .splits }) answer
 
 -- the groups at the front that are at or below the limit: they are finished and listed; and what waits behind them
 unfoldable pub front : ℕ → List (List ℕ) → List (List ℕ)
@@ -80,30 +75,21 @@ module _ (parts : ℕ → List ℕ → List (List ℕ)) (made : ℕ → List ℕ
   splitFrom (suc left) n (g ∷ waiting) =
       let then = pushed (parts n g) waiting in
       let rest = splitFrom left (made n g) (back limit then) in
-      cond (ltb (length g) branching) (refused 6) (more (after (front limit then) rest))
+      cond (ltb (length g) branching) (refused 6) (after (front limit then) 1 rest)
 
   -- the groups that are small enough are listed first
   unfoldable pub groupFrom : ℕ → ℕ → List (List ℕ) → Answer Groups
-  groupFrom left n waiting = after (front limit waiting) (splitFrom left n (back limit waiting))
+  groupFrom left n waiting = after (front limit waiting) 0 (splitFrom left n (back limit waiting))
 
 -- all rows wait as one group, or none where there is no row
 abbrev pub grouping : Rule → ℕ → ℕ → Answer Groups
-grouping rule limit budget =
-    groupFrom (partsOf rule) (madeBy rule) limit (rule .branching) budget 0 (waits (upTo (length (rule .rows))) [])
+grouping rule limit budget = groupFrom (partsOf rule) (madeBy rule) limit (rule .branching) budget 0 (waits (upTo (length (rule .rows))) [])
 
 -- the running totals of the group sizes, from s on
 unfoldable pub endsFrom : ℕ → List (List ℕ) → List ℕ
 endsFrom s [] = []
 endsFrom s (g ∷ groups) = (s + length g) ∷ endsFrom (s + length g) groups
 
-unfoldable pub addRows : Row → List Row → Row
-addRows sums [] = sums
-addRows sums (r ∷ rows) = addRows (addRow sums r) rows
-
--- each sum divided by the count, and not times its inverse
-unfoldable pub dividedBy : ℕ → Row → Row
-dividedBy count sums = map (λ s. div binary32 s (count32 count)) sums
-
--- the mean of a group, its rows added in listed order
+-- the mean of a group: its rows added in listed order, and each sum divided by their count, not times its inverse
 unfoldable pub meanOf : ℕ → List Row → List ℕ → Row
-meanOf dim rows group = dividedBy (length group) (addRows (zeroRow dim) (rowsAt rows group))
+meanOf dim rows group = map (λ s. div binary32 s (count32 (length group))) (foldl addRow (zeroRow dim) (rowsAt rows group))

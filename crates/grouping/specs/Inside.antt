@@ -1,12 +1,12 @@
 -- What the functions inside say of their slices.
 use mathlib.Core.Path.{_≡_}
 use mathlib.Core.List.{List, [], _∷_, _++_, flatten}
-use Prim.Native.Nat.{ℕ, zero, suc, _+_, _-_, _*_, _≤_, _<_}
-use lib.ListN.{length, getD}
+use Prim.Native.Nat.{ℕ, zero, suc, _+_, _-_, _*_, _≤_}
+use lib.ListN.{length}
 use lib.Ieee.{Float}
 use Rattle.sums.specs.Rows.{Row}
 use Rattle.sums.specs.Cells.{Below}
-use Rattle.sums.specs.Refusals.{Answer, accepted, refused, onAccepted, padded, blankCell}
+use Rattle.sums.specs.Refusals.{Answer, accepted, onAccepted, padded, blankCell}
 use Rattle.grouping.specs.declared.call.GroupingAnswer.{GroupingAnswer}
 use Rattle.grouping.specs.Groups.{Rule, Groups, endsFrom}
 use Rattle.grouping.specs.Call.{figures, told}
@@ -29,23 +29,8 @@ pushes e [] = []
 pushes e (zero ∷ sizes) = pushes e sizes
 pushes e (suc n ∷ sizes) = e ∷ pushes (e - suc n) sizes
 
--- what an accepted grouping leaves in the row order and the group ends; after a refusal nothing is said
-unfoldable pub Listed : Answer Groups → ℕ → List ℕ → List ℕ → Type 0
-Listed (accepted g) n order ends =
-    (order ≡ flatten (g .groups)) × ((ends ≡ padded blankCell n (endsFrom 0 (g .groups))) × (Below n order × (length (g .groups) ≤ n)))
-Listed (refused number) n order ends = Unit {0}
-
+-- what the answer tells; and what an accepted grouping leaves in the row order and the group ends. After a refusal nothing is said of them.
 pub record Grouped (answer : Answer Groups) (n : ℕ) (r : GroupingAnswer) (order ends : List ℕ) : Type 0 where
   pub result : told r ≡ onAccepted figures answer
-  pub listed : Listed answer n order ends
-
--- it is so of some answer
-pub record Found (n : ℕ) (r : GroupingAnswer) (order ends : List ℕ) : Type 0 where
-  pub answer : Answer Groups
-  pub grouped : Grouped answer n r order ends
-
--- ends that ascend, each at or below the length, and rows that are numbers below it: what the parts of the row order can be lent by
-pub record Cut (n : ℕ) (order ends : List ℕ) : Type 0 where
-  pub below : Below n order
-  pub ascend : (i : ℕ) → i < length ends → getD (0 ∷ ends) i 0 ≤ getD ends i 0
-  pub reach : (i : ℕ) → i < length ends → getD ends i 0 ≤ n
+  pub listed : (g : Groups) → answer ≡ accepted g
+      → (order ≡ flatten (g .groups)) × ((ends ≡ padded blankCell n (endsFrom 0 (g .groups))) × (Below n order × (length (g .groups) ≤ n)))

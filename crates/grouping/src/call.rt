@@ -8,7 +8,7 @@ ghost use Rattle.sums.specs.Sums.{zero32};
 ghost use Rattle.sums.specs.Refusals.{Answer, Cleared};
 ghost use Rattle.grouping.specs.Call.{rangesFit, lengthsFit, groupingRefusal, groupingCall, Gives};
 ghost use Rattle.grouping.specs.Groups.{Groups};
-ghost use Rattle.grouping.specs.Inside.{ruleOf, Grouped, Found};
+ghost use Rattle.grouping.specs.Inside.{ruleOf, Grouped};
 use crate::means;
 use crate::waiting;
 use sums::cells;
@@ -135,7 +135,7 @@ fn finish(
     means: &mut [f32],
 ) -> GroupingAnswer
     requires { ⌜ (length (now values) ≡ length (now order) * dim) × ((length (now means) ≡ length (now order) * dim) × ((length (now ends) ≡ length (now order)) × (length (now order) ≤ 4096))) ⌝ }
-    requires { ⌜ Found (length (now order)) found (now order) (now ends) × (now means ≡ replicate (length (now means)) zero32) ⌝ }
+    requires { ⌜ ((answer : Answer Groups) × Grouped answer (length (now order)) found (now order) (now ends)) × (now means ≡ replicate (length (now means)) zero32) ⌝ }
     ensures { λ r. ⌜ ((answer : Answer Groups) → Grouped answer (length (now (order .entry))) found (now (order .entry)) (now (ends .entry)) → Gives answer dim (rowsFrom dim (length (now (order .entry))) (now (values .entry))) (length (now (order .entry))) (length (now (ends .entry))) (length (now (means .entry))) r (now (order .exit)) (now (ends .exit)) (now (means .exit))) ⌝ }
 {
     match found {

@@ -11,14 +11,14 @@ ghost use mathlib.Core.List.{List, [], _∷_};
 ghost use Rattle.parts.specs.Parts.{sizesOf, flat};
 ghost use Rattle.parts.specs.Balance.{share};
 ghost use Rattle.parts.specs.Inside.{total};
-ghost use Rattle.kmeans.specs.Inside.{Limits};
+ghost use Rattle.steps.specs.Inside.{Limits};
 ghost use Rattle.grouping.specs.Groups.{balanceIf, partsOf, madeBy};
 ghost use Rattle.grouping.specs.Inside.{ruleOf, workOf};
 use kmeans::config::KMeansConfig;
 use kmeans::restart;
-use kmeans::training;
 use parts::balance;
 use parts::gather;
+use steps::training;
 use sums::cells;
 use sums::draws::Cursor;
 

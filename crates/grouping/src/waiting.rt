@@ -8,7 +8,7 @@ ghost use Rattle.sums.specs.Rows.{rowsFrom};
 ghost use Rattle.sums.specs.Tables.{upTo};
 ghost use Rattle.grouping.specs.Groups.{grouping};
 ghost use Rattle.parts.specs.Inside.{total};
-ghost use Rattle.kmeans.specs.Inside.{Limits};
+ghost use Rattle.steps.specs.Inside.{Limits};
 ghost use Rattle.grouping.specs.Inside.{ruleOf, pushes, workOf, Grouped};
 use crate::call::GroupingAnswer;
 use crate::split;

@@ -18,7 +18,8 @@ use Rattle.kmeans.specs.declared.config.KMeansConfig.{KMeansConfig}
 use Rattle.kmeans.specs.declared.restart.Kept.{Kept}
 use Rattle.kmeans.specs.declared.call.KMeansAnswer.the-variants.{Accepted, Refused}
 use Rattle.kmeans.specs.KMeans.{kmeans}
-use Rattle.kmeans.specs.Inside.{Limits, heldOf}
+use Rattle.steps.specs.Inside.{Limits}
+use Rattle.kmeans.specs.Inside.{heldOf}
 use Rattle.kmeans.proofs.Restarts.{Ran}
 use Rattle.kmeans.specs.Call.{lengthsOf, rangesFit, lengthsFit, kmeansRefusal, kmeansCall, Gives}
 

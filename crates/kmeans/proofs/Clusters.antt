@@ -1,60 +1,25 @@
 -- How many centroids and labels there are, step by step, and which labels. Assumes nothing.
-use mathlib.Core.Path.{_≡_, refl, sym, ap, _∙_}
+use mathlib.Core.Path.{_≡_, _∙_}
 use mathlib.Core.Bool.{Bool, true, false, cond}
-use mathlib.Core.List.{List, [], _∷_}
+use mathlib.Core.List.{List}
 use Prim.Native.Nat.{ℕ, zero, suc, _-_, _≤_, _<_}
-use native.Mathlib.Nat.{suc-inj, suc-ne-zero}
 use lib.Dec.{eqb}
 use lib.Ieee.{lt}
-use lib.ListN.{length, replicate, length-set, length-map, length-replicate}
+use lib.ListN.{length, length-map}
 use Rattle.sums.specs.Rows.{Row, rowsAt}
-use Rattle.sums.specs.Sums.{zeroRow}
 use Rattle.sums.specs.Cells.{Below}
 use Rattle.sums.specs.Draws.{pick}
-use Rattle.labels.specs.declared.nearest.Nearest.{Nearest}
-use Rattle.labels.specs.Label.{nearests}
 use Rattle.labels.proofs.Promises.{label-count, label-below}
 use Rattle.kmeans.specs.declared.config.KMeansConfig.{KMeansConfig}
-use Rattle.kmeans.specs.KMeans.{Fit, Result, Run, target, trainingIf, countsFrom, sumsFrom, updateFrom, update, iterate, firstFit, resultOf, keepBetter, fitOf, restartsFrom, restartsOf, kmeans}
+use Rattle.steps.specs.Steps.{target, trainingIf}
+use Rattle.kmeans.specs.KMeans.{Result, Run, firstFit, resultOf, keepBetter, fitOf, restartsFrom, restartsOf, kmeans}
 use Rattle.sums.proofs.Picks.{pick-length}
-use Rattle.kmeans.proofs.Selects.{training-length, target-enough, target-within}
+use Rattle.steps.proofs.Sizes.{iterate-length}
+use Rattle.steps.proofs.Selects.{training-length, target-enough, target-within}
 
--- ---- an update gives as many centroids as there are clusters
-counts-length : (counts labels : List ℕ) → length (countsFrom counts labels) ≡ length counts
-unfolding countsFrom
-counts-length counts [] = refl
-counts-length counts (l ∷ labels) = counts-length _ labels ∙ length-set counts l _
-
-sums-length : (sums : List Row) (labels : List ℕ) (rows : List Row) → length (sumsFrom sums labels rows) ≡ length sums
-unfolding sumsFrom
-sums-length sums [] rows = refl
-sums-length sums (l ∷ labels) [] = refl
-sums-length sums (l ∷ labels) (r ∷ rows) = sums-length _ labels rows ∙ length-set sums l _
-
-from-length : (draws : List ℕ) (training : List Row) (n : ℕ) (pool counts : List ℕ) (sums : List Row) → length sums ≡ length counts → length (updateFrom draws training n pool counts sums) ≡ length counts
-unfolding updateFrom
-from-length draws training n pool [] sums h = refl
-from-length draws training n pool (c ∷ counts) [] h = absurd (suc-ne-zero (length counts) (sym h))
-from-length draws training n pool (suc c ∷ counts) (s ∷ sums) h = ap suc (from-length draws training n pool counts sums (suc-inj h))
-from-length draws training n (p ∷ pool) (zero ∷ counts) (s ∷ sums) h = ap suc (from-length draws training n pool counts sums (suc-inj h))
-from-length draws training n [] (zero ∷ counts) (s ∷ sums) h = ap suc (from-length draws training (suc n) [] counts sums (suc-inj h))
-
-module _ (draws : List ℕ) (k dim block : ℕ) (training : List Row) where
-  update-length : (n : ℕ) (found : List Nearest) → length (update draws k dim block training n found .centroids) ≡ k
-  unfolding update
-  update-length n found =
-      let c = counts-length (replicate k 0) _ ∙ length-replicate k 0 in
-      let s = sums-length (replicate k (zeroRow dim)) _ training ∙ length-replicate k (zeroRow dim) in
-      from-length draws training n _ _ _ (s ∙ sym c) ∙ c
-
-  iterate-length : (left : ℕ) (fit : Fit) → length (fit .centroids) ≡ k → length (iterate draws k dim block training left fit .centroids) ≡ k
-  unfolding iterate
-  iterate-length zero fit h = h
-  iterate-length (suc left) fit h = iterate-length left _ (update-length (fit .made) (nearests (fit .centroids) training))
-
-  first-length : (n : ℕ) → k ≤ length training → length (firstFit draws k training n .centroids) ≡ k
-  unfolding firstFit
-  first-length n h = length-map (pick draws n k (length training)) _ ∙ pick-length draws (length training) n k h
+first-length : (draws : List ℕ) (k : ℕ) (training : List Row) (n : ℕ) → k ≤ length training → length (firstFit draws k training n .centroids) ≡ k
+unfolding firstFit
+first-length draws k training n h = length-map (pick draws n k (length training)) _ ∙ pick-length draws (length training) n k h
 
 -- ---- what every result has
 pub record Clustered (k : ℕ) (rows : List Row) (r : Result) : Type 0 where
@@ -81,7 +46,7 @@ kept k rows new old p q = go (lt (new .objective) (old .objective))
 module _ (draws : List ℕ) (config : KMeansConfig) (k dim : ℕ) (training rows : List Row) (h : k ≤ length training) where
   fit-length : (n : ℕ) → length (fitOf draws config k dim training rows n .centroids) ≡ k
   unfolding fitOf
-  fit-length n = iterate-length draws k dim _ training (config .niter) _ (first-length draws k dim 0 training n h)
+  fit-length n = iterate-length draws k dim _ training (config .niter) _ (first-length draws k training n h)
 
   from-clustered : (left number : ℕ) (run : Run) → Clustered k rows (run .result) → Clustered k rows (restartsFrom draws config k dim training rows left number run .result)
   unfolding restartsFrom

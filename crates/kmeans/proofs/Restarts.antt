@@ -1,7 +1,7 @@
 -- A restart's parts put together, on lists. Assumes nothing.
 use Prim.Native.Nat.{ℕ, suc, _+_, _-_, _*_, _≤_, _<_}
 use mathlib.Core.Path.{_≡_, refl, ap, _∙_}
-use mathlib.Core.Bool.{true, false}
+use mathlib.Core.Bool.{true, false, cond}
 use mathlib.Core.List.{List}
 use native.Mathlib.Numerals.{add-one}
 use native.Mathlib.Omega.{arith}
@@ -17,11 +17,13 @@ use Rattle.sums.specs.Sums.{zero32}
 use Rattle.labels.specs.Label.{nearests, labelsOf}
 use Rattle.kmeans.specs.declared.config.KMeansConfig.{KMeansConfig}
 use Rattle.kmeans.specs.declared.restart.Kept.{Kept}
-use Rattle.kmeans.specs.KMeans.{Fit, Run, target, trainingIf, trainingDraws, iterate, kmeans, firstFit, objectiveFrom, keepBetter, resultOf, fitOf, restartsFrom, restartsOf}
+use Rattle.steps.specs.Steps.{Fit, target, trainingIf, iterate, objectiveFrom}
+use Rattle.kmeans.specs.KMeans.{Run, kmeans, firstFit, keepBetter, resultOf, fitOf, restartsFrom, restartsOf}
 use Rattle.kmeans.specs.Inside.{heldOf}
-use Rattle.kmeans.proofs.Rooms.{Room, Spaces, Workspace}
-use Rattle.kmeans.proofs.Selects.{Selected}
-use Rattle.kmeans.proofs.Iterations.{Fitted}
+use Rattle.steps.proofs.Rooms.{Room}
+use Rattle.kmeans.proofs.Rooms.{Spaces, Workspace}
+use Rattle.steps.proofs.Selects.{Selected}
+use Rattle.steps.proofs.Iterations.{Fitted}
 
 module _ (draws : List ℕ) (k dim block : ℕ) (training : List Row) (iterations : ℕ) where
   -- one restart, after n draws
@@ -56,8 +58,8 @@ Ran draws config k dim rows cursor r labels centroids =
 
 -- the training rows have room, and the centroids that a restart is to fill
 pub trained : {dim rows aim k values own training centroids distances trialLabels places : ℕ} → Spaces dim rows aim k values own training centroids distances trialLabels places
-    → (block held totals at : ℕ) → 0 < block → held ≡ k * dim → totals ≡ k * dim → at ≡ k → Room dim aim k block training aim held aim totals at
-trained s block held totals at b h t a = record {
+    → (block held : ℕ) → 0 < block → held ≡ k * dim → Room dim aim k block training aim held aim
+trained s block held b h = record {
   some-dim = s .some-dim;
   small-dim = s .small-dim;
   some-rows = omega (arith, s .some, s .enough);
@@ -69,8 +71,6 @@ trained s block held totals at b h t a = record {
   own-cells = refl;
   centroid-cells = h;
   distance-cells = refl;
-  total-cells = t;
-  at-cells = a;
 }
 
 pub restarted : (draws : List ℕ) (k dim block iterations m : ℕ) (training centroids₀ centroids : List Row) (places : List ℕ) (cursor next r : Cursor)
@@ -90,10 +90,10 @@ restarted draws k dim block iterations m training centroids₀ centroids places 
 -- with `aim` rows training, a call's slices leave room for the restarts
 pub spaces-of : {points block dim rows k values centroids training own trainingOwn distances trialLabels places : ℕ}
     → Workspace points block dim rows k values centroids training own trainingOwn distances trialLabels places
-    → (aim k′ aim′ own′ training′ places′ : ℕ) → k ≤ aim → aim ≤ rows → k′ ≡ k → aim′ ≡ aim → own′ ≡ own → training′ ≡ aim * dim → places′ ≡ aim
-    → Spaces dim rows aim′ k′ values own′ training′ centroids distances trialLabels places′
-spaces-of w aim k′ aim′ own′ training′ places′ l h ek ea eo et ep =
-    rw (ek, ea, eo, et, ep)
+    → (aim aim′ own′ training′ places′ : ℕ) → k ≤ aim → aim ≤ rows → aim′ ≡ aim → own′ ≡ own → training′ ≡ aim * dim → places′ ≡ aim
+    → Spaces dim rows aim′ k values own′ training′ centroids distances trialLabels places′
+spaces-of w aim aim′ own′ training′ places′ l h ea eo et ep =
+    rw (ea, eo, et, ep)
     (record {
       some-dim = w .some-dim;
       small-dim = w .small-dim;
@@ -121,7 +121,7 @@ ran draws config k dim aim m training rows cursor next r places labels centroids
   steps = λ n p.
       let w = s .1 .steps n p in
       let x : training ≡ rowsAt rows (trainingIf (eqb aim m) draws n aim m) = g ∙ rw (w .0) in
-      rw (e, ← t, ← x) (f .steps (n + trainingDraws (eqb aim m) aim) (w .1));
+      rw (e, ← t, ← x) (f .steps (n + cond (eqb aim m) 0 aim) (w .1));
 }
 
 -- ---- the first restart
@@ -156,29 +156,22 @@ module _ (draws : List ℕ) (k dim block : ℕ) (training rows : List Row) (iter
 -- ---- the restarts in turn
 
 -- every slice is as long as it was
-pub record Sizes (labels₀ : List ℕ) (centroids₀ distances₀ : List Float) (trial-labels₀ places₀ counts₀ : List ℕ) (totals₀ : List Float) (at₀ : List ℕ) (trial₀ : List Float)
-    (labels : List ℕ) (centroids distances : List Float) (trial-labels places counts : List ℕ) (totals : List Float) (at : List ℕ) (trial : List Float) : Type 0 where
+pub record Sizes (labels₀ : List ℕ) (centroids₀ distances₀ : List Float) (trial-labels₀ places₀ : List ℕ) (trial₀ : List Float)
+    (labels : List ℕ) (centroids distances : List Float) (trial-labels places : List ℕ) (trial : List Float) : Type 0 where
   pub l-labels : length labels ≡ length labels₀
   pub l-centroids : length centroids ≡ length centroids₀
   pub l-distances : length distances ≡ length distances₀
   pub l-trial-labels : length trial-labels ≡ length trial-labels₀
   pub l-places : length places ≡ length places₀
-  pub l-counts : length counts ≡ length counts₀
-  pub l-totals : length totals ≡ length totals₀
-  pub l-at : length at ≡ length at₀
   pub l-trial : length trial ≡ length trial₀
 
 -- so what was asked of their lengths still holds
-module _ {labels₀ : List ℕ} {centroids₀ distances₀ : List Float} {trial-labels₀ places₀ counts₀ : List ℕ} {totals₀ : List Float} {at₀ : List ℕ} {trial₀ : List Float}
-    {labels : List ℕ} {centroids distances : List Float} {trial-labels places counts : List ℕ} {totals : List Float} {at : List ℕ} {trial : List Float}
-    (s : Sizes labels₀ centroids₀ distances₀ trial-labels₀ places₀ counts₀ totals₀ at₀ trial₀ labels centroids distances trial-labels places counts totals at trial) where
-  pub still-spaces : {dim aim values own training : ℕ} → Spaces dim (length labels₀) aim (length counts₀) values own training (length centroids₀) (length distances₀) (length trial-labels₀) (length places₀)
-      → Spaces dim (length labels) aim (length counts) values own training (length centroids) (length distances) (length trial-labels) (length places)
-  still-spaces h = rw (s .l-labels, s .l-counts, s .l-centroids, s .l-distances, s .l-trial-labels, s .l-places) h
-
-  pub still-work : (dim block : ℕ) → (0 < block) × ((length totals₀ ≡ length counts₀ * dim) × ((length at₀ ≡ length counts₀) × (length trial₀ ≡ length counts₀ * dim)))
-      → (0 < block) × ((length totals ≡ length counts * dim) × ((length at ≡ length counts) × (length trial ≡ length counts * dim)))
-  still-work dim block h = rw (s .l-totals, s .l-counts, s .l-at, s .l-trial) h
+module _ {labels₀ : List ℕ} {centroids₀ distances₀ : List Float} {trial-labels₀ places₀ : List ℕ} {trial₀ : List Float}
+    {labels : List ℕ} {centroids distances : List Float} {trial-labels places : List ℕ} {trial : List Float}
+    (s : Sizes labels₀ centroids₀ distances₀ trial-labels₀ places₀ trial₀ labels centroids distances trial-labels places trial) where
+  pub still-spaces : {dim aim k values own training : ℕ} → Spaces dim (length labels₀) aim k values own training (length centroids₀) (length distances₀) (length trial-labels₀) (length places₀)
+      → Spaces dim (length labels) aim k values own training (length centroids) (length distances) (length trial-labels) (length places)
+  still-spaces h = rw (s .l-labels, s .l-centroids, s .l-distances, s .l-trial-labels, s .l-places) h
 
 module _ (draws : List ℕ) (config : KMeansConfig) (k dim : ℕ) (training rows : List Row) (labels₀ : List ℕ) (centroids₀ : List Row) (best₀ : Kept) where
   -- after m draws for the first restart, the restarts from `number` on are left

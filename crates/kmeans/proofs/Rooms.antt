@@ -3,50 +3,8 @@ use mathlib.Core.Path.{_≡_}
 use mathlib.Core.List.{List, [], _∷_}
 use Prim.Native.Nat.{ℕ, _*_, _≤_, _<_}
 use Rattle.kmeans.specs.Call.{lengthsOf}
-use Rattle.kmeans.specs.Inside.{Limits, roomOf, spacesOf}
-
--- how long the slices of an iteration over `rows` training rows are
-pub record Room (dim rows k block training own centroids distances totals at : ℕ) : Type 0 where
-  pub some-dim : 0 < dim
-  pub small-dim : dim ≤ 64
-  pub some-rows : 0 < rows
-  pub few-rows : rows ≤ 4096
-  pub some : 0 < k
-  pub few : k ≤ 64
-  pub some-block : 0 < block
-  pub training-cells : training ≡ rows * dim
-  pub own-cells : own ≡ rows
-  pub centroid-cells : centroids ≡ k * dim
-  pub distance-cells : distances ≡ rows
-  pub total-cells : totals ≡ k * dim
-  pub at-cells : at ≡ k
-
-module _ {dim rows k block training own centroids distances totals at : ℕ} where
-  pub room-in : (Limits dim k rows × ((0 < rows) × (0 < block))) × ((training ∷ own ∷ centroids ∷ distances ∷ totals ∷ at ∷ []) ≡ roomOf dim rows k)
-      → Room dim rows k block training own centroids distances totals at
-  room-in h = let e = h .1 in
-      record {
-        some-dim = h .0 .0 .0 .0;
-        small-dim = h .0 .0 .0 .1;
-        some-rows = h .0 .1 .0;
-        few-rows = h .0 .0 .1 .1;
-        some = h .0 .0 .1 .0 .0;
-        few = h .0 .0 .1 .0 .1;
-        some-block = h .0 .1 .1;
-        training-cells = cc;
-        own-cells = cc;
-        centroid-cells = cc;
-        distance-cells = cc;
-        total-cells = cc;
-        at-cells = cc;
-      }
-
-  pub room-out : Room dim rows k block training own centroids distances totals at
-      → (Limits dim k rows × ((0 < rows) × (0 < block))) × ((training ∷ own ∷ centroids ∷ distances ∷ totals ∷ at ∷ []) ≡ roomOf dim rows k)
-  room-out r = (
-    (((r .some-dim, r .small-dim), ((r .some, r .few), r .few-rows)), (r .some-rows, r .some-block)),
-    rw (r .training-cells, r .own-cells, r .centroid-cells, r .distance-cells, r .total-cells, r .at-cells),
-  )
+use Rattle.steps.specs.Inside.{Limits}
+use Rattle.kmeans.specs.Inside.{spacesOf}
 
 -- how long the slices of the restarts are; `rows` rows, of which `aim` train
 pub record Spaces (dim rows aim k values own training centroids distances trialLabels places : ℕ) : Type 0 where

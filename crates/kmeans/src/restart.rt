@@ -8,14 +8,16 @@ ghost use Rattle.sums.specs.Sums.{zero32};
 ghost use Rattle.sums.specs.Draws.{Drawn};
 ghost use Rattle.labels.specs.Label.{nearests, labelsOf};
 ghost use Rattle.labels.specs.Inside.{normsOf, Assignable};
-ghost use Rattle.kmeans.specs.KMeans.{iterate, firstFit, objectiveFrom, resultOf, keepBetter, restartsOf, kmeans};
+ghost use Rattle.steps.specs.Steps.{iterate, objectiveFrom};
+ghost use Rattle.kmeans.specs.KMeans.{firstFit, resultOf, keepBetter, restartsOf, kmeans};
 ghost use Rattle.kmeans.specs.Call.{lengthsOf};
-ghost use Rattle.kmeans.specs.Inside.{Limits, roomOf, spacesOf, heldOf};
+ghost use Rattle.steps.specs.Inside.{Limits, roomOf};
+ghost use Rattle.kmeans.specs.Inside.{spacesOf, heldOf};
 use crate::config::KMeansConfig;
-use crate::lloyd;
-use crate::objective;
-use crate::training;
 use labels::nearest;
+use steps::lloyd;
+use steps::objective;
+use steps::training;
 use sums::cells;
 use sums::draws;
 use sums::draws::Cursor;
@@ -34,22 +36,19 @@ fn run_restart(
     own: &[f32],
     dim: usize,
     block: usize,
+    k: usize,
     draws: &[u32],
     cursor: Cursor,
     places: &mut [u16],
     centroids: &mut [f32],
     labels: &mut [u16],
     distances: &mut [f32],
-    counts: &mut [u16],
-    totals: &mut [f32],
-    at: &mut [u16],
 ) -> Cursor
-    requires { ⌜ (Limits dim (length (now counts)) (length (now labels)) × ((0 < length (now labels)) × (0 < block))) × ((length (now training) ∷ length (now own) ∷ length (now centroids) ∷ length (now distances) ∷ length (now totals) ∷ length (now at) ∷ []) ≡ roomOf dim (length (now labels)) (length (now counts))) ⌝ }
+    requires { ⌜ (Limits dim k (length (now labels)) × ((0 < length (now labels)) × (0 < block))) × ((length (now training) ∷ length (now own) ∷ length (now centroids) ∷ length (now distances) ∷ []) ≡ roomOf dim (length (now labels)) k) ⌝ }
     requires { ⌜ now own ≡ normsOf (rowsFrom dim (length (now labels)) (now training)) ⌝ }
-    requires { ⌜ (cursor .at < length (now draws)) × ((length (now places) ≡ length (now labels)) × (length (now counts) ≤ length (now labels))) ⌝ }
-    ensures { λ r. ⌜ Drawn (now (draws .entry)) cursor r (rowsFrom dim (length (now (counts .entry))) (now (centroids .exit))) (λ n. (iterate (now (draws .entry)) (length (now (counts .entry))) dim block (rowsFrom dim (length (now (labels .entry))) (now (training .entry))) iterations (firstFit (now (draws .entry)) (length (now (counts .entry))) (rowsFrom dim (length (now (labels .entry))) (now (training .entry))) n)) .centroids) (λ n. (iterate (now (draws .entry)) (length (now (counts .entry))) dim block (rowsFrom dim (length (now (labels .entry))) (now (training .entry))) iterations (firstFit (now (draws .entry)) (length (now (counts .entry))) (rowsFrom dim (length (now (labels .entry))) (now (training .entry))) n)) .made) ⌝ }
+    requires { ⌜ (cursor .at < length (now draws)) × ((length (now places) ≡ length (now labels)) × (k ≤ length (now labels))) ⌝ }
+    ensures { λ r. ⌜ Drawn (now (draws .entry)) cursor r (rowsFrom dim k (now (centroids .exit))) (λ n. (iterate (now (draws .entry)) k dim block (rowsFrom dim (length (now (labels .entry))) (now (training .entry))) iterations (firstFit (now (draws .entry)) k (rowsFrom dim (length (now (labels .entry))) (now (training .entry))) n)) .centroids) (λ n. (iterate (now (draws .entry)) k dim block (rowsFrom dim (length (now (labels .entry))) (now (training .entry))) iterations (firstFit (now (draws .entry)) k (rowsFrom dim (length (now (labels .entry))) (now (training .entry))) n)) .made) ⌝ }
 {
-    let k = counts.len();
     let rows = places.len();
     let next = draws::pick(draws, cursor, places, k);
     training::gather_rows(training, dim, rows, &places[..k], centroids);
@@ -59,14 +58,12 @@ fn run_restart(
         own,
         dim,
         block,
+        k,
         draws,
         next,
         centroids,
         labels,
         distances,
-        counts,
-        totals,
-        at,
     )
 }
 
@@ -93,6 +90,7 @@ fn first_restart(
     iterations: usize,
     block: usize,
     dim: usize,
+    k: usize,
     values: &[f32],
     own: &[f32],
     training: &[f32],
@@ -104,17 +102,13 @@ fn first_restart(
     distances: &mut [f32],
     trial_labels: &mut [u16],
     places: &mut [u16],
-    counts: &mut [u16],
-    totals: &mut [f32],
-    at: &mut [u16],
 ) -> Kept
-    requires { ⌜ (Limits dim (length (now counts)) (length (now labels)) × ((length (now counts) ≤ length (now «training_own»)) × (length (now «training_own») ≤ length (now labels)))) × ((length (now values) ∷ length (now own) ∷ length (now training) ∷ length (now centroids) ∷ length (now distances) ∷ length (now «trial_labels») ∷ length (now places) ∷ []) ≡ spacesOf dim (length (now labels)) (length (now «training_own»)) (length (now counts))) ⌝ }
-    requires { ⌜ (0 < block) × ((length (now totals) ≡ length (now counts) * dim) × (length (now at) ≡ length (now counts))) ⌝ }
+    requires { ⌜ (Limits dim k (length (now labels)) × ((k ≤ length (now «training_own»)) × (length (now «training_own») ≤ length (now labels)))) × ((length (now values) ∷ length (now own) ∷ length (now training) ∷ length (now centroids) ∷ length (now distances) ∷ length (now «trial_labels») ∷ length (now places) ∷ []) ≡ spacesOf dim (length (now labels)) (length (now «training_own»)) k) ⌝ }
+    requires { ⌜ 0 < block ⌝ }
     requires { ⌜ (now own ≡ normsOf (rowsFrom dim (length (now labels)) (now values))) × (now «training_own» ≡ normsOf (rowsFrom dim (length (now «training_own»)) (now training))) ⌝ }
     requires { ⌜ cursor .at < length (now draws) ⌝ }
-    ensures { λ r. ⌜ Drawn (now (draws .entry)) cursor (r .cursor) (heldOf (now (labels .exit)) (rowsFrom dim (length (now (counts .entry))) (now (centroids .exit))) r) (λ n. resultOf (rowsFrom dim (length (now (labels .entry))) (now (values .entry))) 0 ((iterate (now (draws .entry)) (length (now (counts .entry))) dim block (rowsFrom dim (length (now («training_own» .entry))) (now (training .entry))) iterations (firstFit (now (draws .entry)) (length (now (counts .entry))) (rowsFrom dim (length (now («training_own» .entry))) (now (training .entry))) n)) .centroids)) (λ n. (iterate (now (draws .entry)) (length (now (counts .entry))) dim block (rowsFrom dim (length (now («training_own» .entry))) (now (training .entry))) iterations (firstFit (now (draws .entry)) (length (now (counts .entry))) (rowsFrom dim (length (now («training_own» .entry))) (now (training .entry))) n)) .made) ⌝ }
+    ensures { λ r. ⌜ Drawn (now (draws .entry)) cursor (r .cursor) (heldOf (now (labels .exit)) (rowsFrom dim k (now (centroids .exit))) r) (λ n. resultOf (rowsFrom dim (length (now (labels .entry))) (now (values .entry))) 0 ((iterate (now (draws .entry)) k dim block (rowsFrom dim (length (now («training_own» .entry))) (now (training .entry))) iterations (firstFit (now (draws .entry)) k (rowsFrom dim (length (now («training_own» .entry))) (now (training .entry))) n)) .centroids)) (λ n. (iterate (now (draws .entry)) k dim block (rowsFrom dim (length (now («training_own» .entry))) (now (training .entry))) iterations (firstFit (now (draws .entry)) k (rowsFrom dim (length (now («training_own» .entry))) (now (training .entry))) n)) .made) ⌝ }
 {
-    let k = counts.len();
     let aim = training_own.len();
     let next = run_restart(
         iterations,
@@ -122,15 +116,13 @@ fn first_restart(
         training_own,
         dim,
         block,
+        k,
         draws,
         cursor,
         places,
         centroids,
         &mut trial_labels[..aim],
         &mut distances[..aim],
-        counts,
-        totals,
-        at,
     );
     let objective = finish_restart(values, own, dim, centroids, k, labels, distances);
     Kept {
@@ -147,6 +139,7 @@ fn try_restart(
     iterations: usize,
     block: usize,
     dim: usize,
+    k: usize,
     values: &[f32],
     own: &[f32],
     training: &[f32],
@@ -157,18 +150,14 @@ fn try_restart(
     distances: &mut [f32],
     trial_labels: &mut [u16],
     places: &mut [u16],
-    counts: &mut [u16],
-    totals: &mut [f32],
-    at: &mut [u16],
     trial: &mut [f32],
 ) -> Kept
-    requires { ⌜ (Limits dim (length (now counts)) (length (now labels)) × ((length (now counts) ≤ length (now «training_own»)) × (length (now «training_own») ≤ length (now labels)))) × ((length (now values) ∷ length (now own) ∷ length (now training) ∷ length (now centroids) ∷ length (now distances) ∷ length (now «trial_labels») ∷ length (now places) ∷ []) ≡ spacesOf dim (length (now labels)) (length (now «training_own»)) (length (now counts))) ⌝ }
-    requires { ⌜ (0 < block) × ((length (now totals) ≡ length (now counts) * dim) × ((length (now at) ≡ length (now counts)) × (length (now trial) ≡ length (now counts) * dim))) ⌝ }
+    requires { ⌜ (Limits dim k (length (now labels)) × ((k ≤ length (now «training_own»)) × (length (now «training_own») ≤ length (now labels)))) × ((length (now values) ∷ length (now own) ∷ length (now training) ∷ length (now centroids) ∷ length (now distances) ∷ length (now «trial_labels») ∷ length (now places) ∷ []) ≡ spacesOf dim (length (now labels)) (length (now «training_own»)) k) ⌝ }
+    requires { ⌜ (0 < block) × (length (now trial) ≡ k * dim) ⌝ }
     requires { ⌜ (now own ≡ normsOf (rowsFrom dim (length (now labels)) (now values))) × (now «training_own» ≡ normsOf (rowsFrom dim (length (now «training_own»)) (now training))) ⌝ }
     requires { ⌜ best .cursor .at < length (now draws) ⌝ }
-    ensures { λ r. ⌜ Drawn (now (draws .entry)) (best .cursor) (r .cursor) (heldOf (now (labels .exit)) (rowsFrom dim (length (now (counts .entry))) (now (centroids .exit))) r) (λ n. keepBetter (resultOf (rowsFrom dim (length (now (labels .entry))) (now (values .entry))) number ((iterate (now (draws .entry)) (length (now (counts .entry))) dim block (rowsFrom dim (length (now («training_own» .entry))) (now (training .entry))) iterations (firstFit (now (draws .entry)) (length (now (counts .entry))) (rowsFrom dim (length (now («training_own» .entry))) (now (training .entry))) n)) .centroids)) (heldOf (now (labels .entry)) (rowsFrom dim (length (now (counts .entry))) (now (centroids .entry))) best)) (λ n. (iterate (now (draws .entry)) (length (now (counts .entry))) dim block (rowsFrom dim (length (now («training_own» .entry))) (now (training .entry))) iterations (firstFit (now (draws .entry)) (length (now (counts .entry))) (rowsFrom dim (length (now («training_own» .entry))) (now (training .entry))) n)) .made) ⌝ }
+    ensures { λ r. ⌜ Drawn (now (draws .entry)) (best .cursor) (r .cursor) (heldOf (now (labels .exit)) (rowsFrom dim k (now (centroids .exit))) r) (λ n. keepBetter (resultOf (rowsFrom dim (length (now (labels .entry))) (now (values .entry))) number ((iterate (now (draws .entry)) k dim block (rowsFrom dim (length (now («training_own» .entry))) (now (training .entry))) iterations (firstFit (now (draws .entry)) k (rowsFrom dim (length (now («training_own» .entry))) (now (training .entry))) n)) .centroids)) (heldOf (now (labels .entry)) (rowsFrom dim k (now (centroids .entry))) best)) (λ n. (iterate (now (draws .entry)) k dim block (rowsFrom dim (length (now («training_own» .entry))) (now (training .entry))) iterations (firstFit (now (draws .entry)) k (rowsFrom dim (length (now («training_own» .entry))) (now (training .entry))) n)) .made) ⌝ }
 {
-    let k = counts.len();
     let aim = training_own.len();
     let from = best.cursor;
     let next = run_restart(
@@ -177,15 +166,13 @@ fn try_restart(
         training_own,
         dim,
         block,
+        k,
         draws,
         from,
         places,
         trial,
         &mut trial_labels[..aim],
         &mut distances[..aim],
-        counts,
-        totals,
-        at,
     );
     let objective = finish_restart(values, own, dim, trial, k, trial_labels, distances);
     if objective < best.objective {
@@ -208,6 +195,7 @@ fn try_restart(
 fn run_restarts(
     config: KMeansConfig,
     dim: usize,
+    k: usize,
     values: &[f32],
     own: &[f32],
     training: &[f32],
@@ -219,16 +207,13 @@ fn run_restarts(
     distances: &mut [f32],
     trial_labels: &mut [u16],
     places: &mut [u16],
-    counts: &mut [u16],
-    totals: &mut [f32],
-    at: &mut [u16],
     trial: &mut [f32],
 ) -> Kept
-    requires { ⌜ (Limits dim (length (now counts)) (length (now labels)) × ((length (now counts) ≤ length (now «training_own»)) × (length (now «training_own») ≤ length (now labels)))) × ((length (now values) ∷ length (now own) ∷ length (now training) ∷ length (now centroids) ∷ length (now distances) ∷ length (now «trial_labels») ∷ length (now places) ∷ []) ≡ spacesOf dim (length (now labels)) (length (now «training_own»)) (length (now counts))) ⌝ }
-    requires { ⌜ (0 < config .«decode_block_size») × ((length (now totals) ≡ length (now counts) * dim) × ((length (now at) ≡ length (now counts)) × (length (now trial) ≡ length (now counts) * dim))) ⌝ }
+    requires { ⌜ (Limits dim k (length (now labels)) × ((k ≤ length (now «training_own»)) × (length (now «training_own») ≤ length (now labels)))) × ((length (now values) ∷ length (now own) ∷ length (now training) ∷ length (now centroids) ∷ length (now distances) ∷ length (now «trial_labels») ∷ length (now places) ∷ []) ≡ spacesOf dim (length (now labels)) (length (now «training_own»)) k) ⌝ }
+    requires { ⌜ (0 < config .«decode_block_size») × (length (now trial) ≡ k * dim) ⌝ }
     requires { ⌜ (now own ≡ normsOf (rowsFrom dim (length (now labels)) (now values))) × (now «training_own» ≡ normsOf (rowsFrom dim (length (now «training_own»)) (now training))) ⌝ }
     requires { ⌜ cursor .at < length (now draws) ⌝ }
-    ensures { λ r. ⌜ Drawn (now (draws .entry)) cursor (r .cursor) (heldOf (now (labels .exit)) (rowsFrom dim (length (now (counts .entry))) (now (centroids .exit))) r) (λ n. (restartsOf (now (draws .entry)) config (length (now (counts .entry))) dim (rowsFrom dim (length (now («training_own» .entry))) (now (training .entry))) (rowsFrom dim (length (now (labels .entry))) (now (values .entry))) (config .nredo - 1) n) .result) (λ n. (restartsOf (now (draws .entry)) config (length (now (counts .entry))) dim (rowsFrom dim (length (now («training_own» .entry))) (now (training .entry))) (rowsFrom dim (length (now (labels .entry))) (now (values .entry))) (config .nredo - 1) n) .made) ⌝ }
+    ensures { λ r. ⌜ Drawn (now (draws .entry)) cursor (r .cursor) (heldOf (now (labels .exit)) (rowsFrom dim k (now (centroids .exit))) r) (λ n. (restartsOf (now (draws .entry)) config k dim (rowsFrom dim (length (now («training_own» .entry))) (now (training .entry))) (rowsFrom dim (length (now (labels .entry))) (now (values .entry))) (config .nredo - 1) n) .result) (λ n. (restartsOf (now (draws .entry)) config k dim (rowsFrom dim (length (now («training_own» .entry))) (now (training .entry))) (rowsFrom dim (length (now (labels .entry))) (now (values .entry))) (config .nredo - 1) n) .made) ⌝ }
 {
     let iterations = config.niter as usize;
     let block = config.decode_block_size as usize;
@@ -236,6 +221,7 @@ fn run_restarts(
         iterations,
         block,
         dim,
+        k,
         values,
         own,
         training,
@@ -247,9 +233,6 @@ fn run_restarts(
         distances,
         trial_labels,
         places,
-        counts,
-        totals,
-        at,
     );
     let mut number = 1u32;
     while number < config.nredo {
@@ -259,6 +242,7 @@ fn run_restarts(
             iterations,
             block,
             dim,
+            k,
             values,
             own,
             training,
@@ -269,9 +253,6 @@ fn run_restarts(
             distances,
             trial_labels,
             places,
-            counts,
-            totals,
-            at,
             trial,
         );
         best = next;
@@ -309,13 +290,11 @@ pub fn run_kmeans_flat(
     nearest::compute_norms(values, dim, own);
     nearest::compute_norms(&training[..cells], dim, &mut training_own[..aim]);
     let width = k * dim;
-    let mut counts = [0u16; 64];
-    let mut totals = [0.0f32; 4096];
-    let mut at = [0u16; 64];
     let mut trial = [0.0f32; 4096];
     run_restarts(
         config,
         dim,
+        k,
         values,
         own,
         &training[..cells],
@@ -327,9 +306,6 @@ pub fn run_kmeans_flat(
         distances,
         trial_labels,
         &mut places[..aim],
-        &mut counts[..k],
-        &mut totals[..width],
-        &mut at[..k],
         &mut trial[..width],
     )
 }

@@ -12,12 +12,13 @@ use lib.Seq.{drop-set-lt, drop-cons, length-take-le}
 use Rattle.sums.specs.Rows.{Row, rowsFrom, rowAt}
 use Rattle.sums.specs.Sums.{normOf}
 use Rattle.sums.specs.Tables.{tabulate}
+use Rattle.sums.specs.Refusals.{sameAll}
 use Rattle.sums.proofs.Tables.{fill-more, fill-done, getD-tab, length-tab, tab-same}
 use Rattle.sums.proofs.Rows.{room, map-rows}
 use Rattle.labels.specs.declared.nearest.Nearest.{Nearest}
 use Rattle.labels.specs.Label.{nearest, nearests, labelsOf, distancesOf}
 use Rattle.labels.specs.Panels.{panelsOf}
-use Rattle.labels.specs.Inside.{alike, normsOf, byPanels, Assignable}
+use Rattle.labels.specs.Inside.{normsOf, byPanels, Assignable}
 use Rattle.labels.proofs.Searches.{by-panels}
 
 -- the first i rows are assigned, whatever finds a row's nearest
@@ -28,7 +29,7 @@ pub record Assigning (found : ℕ → Nearest) (labels₀ labels : List ℕ) (di
   pub labels-done : take i labels ≡ tabulate (λ j. found j .label) i
   pub distances-done : take i distances ≡ tabulate (λ j. found j .distance) i
   pub rest : drop i labels ≡ drop i labels₀
-  pub so-far : (same && alike (drop i labels₀) (drop i (tabulate (λ j. found j .label) (length labels₀)))) ≡ alike labels₀ (tabulate (λ j. found j .label) (length labels₀))
+  pub so-far : (same && sameAll (drop i labels₀) (drop i (tabulate (λ j. found j .label) (length labels₀)))) ≡ sameAll labels₀ (tabulate (λ j. found j .label) (length labels₀))
 
 pub assigning-start : (found : ℕ → Nearest) (labels : List ℕ) (distances : List Float) → length distances ≡ length labels → Assigning found labels labels distances true 0
 assigning-start found labels distances e = record {
@@ -47,14 +48,14 @@ read l l₀ i h h₀ e =
     let p : getD l i 0 ∷ drop (suc i) l ≡ getD l₀ i 0 ∷ drop (suc i) l₀ = sym (drop-cons l i 0 h) ∙ (e ∙ drop-cons l₀ i 0 h₀) in
     (cc, cc)
 
-alike-on : (xs ys : List ℕ) (i : ℕ) → i < length xs → i < length ys
-    → alike (drop i xs) (drop i ys) ≡ (eqb (getD xs i 0) (getD ys i 0) && alike (drop (suc i) xs) (drop (suc i) ys))
-unfolding alike
-alike-on xs ys i h k = rw (drop-cons xs i 0 h, drop-cons ys i 0 k)
+same-on : (xs ys : List ℕ) (i : ℕ) → i < length xs → i < length ys
+    → sameAll (drop i xs) (drop i ys) ≡ (eqb (getD xs i 0) (getD ys i 0) && sameAll (drop (suc i) xs) (drop (suc i) ys))
+unfolding sameAll
+same-on xs ys i h k = rw (drop-cons xs i 0 h, drop-cons ys i 0 k)
 
-alike-end : (xs ys : List ℕ) (i : ℕ) → length xs ≤ i → alike (drop i xs) ys ≡ true
-unfolding alike
-alike-end xs ys i h = rw (drop-of-length-le xs {i = i} h)
+same-end : (xs ys : List ℕ) (i : ℕ) → length xs ≤ i → length ys ≤ i → sameAll (drop i xs) (drop i ys) ≡ true
+unfolding sameAll
+same-end xs ys i h k = rw (drop-of-length-le xs {i = i} h, drop-of-length-le ys {i = i} k)
 
 module _ {found : ℕ → Nearest} {labels₀ labels : List ℕ} {distances : List Float} {same : Bool} {i : ℕ} (h : Assigning found labels₀ labels distances same i) where
   -- row i's nearest, put to its cells
@@ -74,7 +75,7 @@ module _ {found : ℕ → Nearest} {labels₀ labels : List ℕ} {distances : Li
         distances-done = fill-more _ distances i (n .distance) (omega (arith, h .distances-sized)) (h .distances-done) (ap (λ (x : Nearest). x .distance) e);
         rest = rw (add-one i) (drop-set-lt (suc i) labels i (n .label) (omega arith) ∙ old .1);
         so-far = rw (add-one i, s, old .0, p, ← (getD-tab f (length labels₀) i 0 l), and-assoc)
-            (ap (λ (b : Bool). same && b) (sym (alike-on labels₀ (tabulate f (length labels₀)) i l (rw (length-tab f (length labels₀)) l))) ∙ h .so-far);
+            (ap (λ (b : Bool). same && b) (sym (same-on labels₀ (tabulate f (length labels₀)) i l (rw (length-tab f (length labels₀)) l))) ∙ h .so-far);
       }
 
   pub assigning-labels : length labels₀ ≤ i → labels ≡ tabulate (λ j. found j .label) (length labels₀)
@@ -87,10 +88,10 @@ module _ {found : ℕ → Nearest} {labels₀ labels : List ℕ} {distances : Li
       let e : length labels₀ ≡ i = omega (arith, h .within) in
       rw e (fill-done _ distances i (omega (arith, h .distances-sized)) (h .distances-done))
 
-  pub assigning-same : length labels₀ ≤ i → same ≡ alike labels₀ labels
+  pub assigning-same : length labels₀ ≤ i → same ≡ sameAll labels₀ labels
   assigning-same l =
       rw (assigning-labels l)
-      (sym (and-true same) ∙ rw (alike-end labels₀ (drop i (tabulate (λ j. found j .label) (length labels₀))) i l) at (h .so-far))
+      (sym (and-true same) ∙ rw (same-end labels₀ (tabulate (λ j. found j .label) (length labels₀)) i l (rw (length-tab (λ j. found j .label) (length labels₀)) l)) at (h .so-far))
 
 -- ---- labels and distances by index
 module _ (centroids : List Row) (dim n : ℕ) (values : List Float) where
@@ -107,22 +108,22 @@ module _ (centroids : List Row) (dim n : ℕ) (values : List Float) where
 -- what the panels give all rows, and what the centroids give: labels, distances, and whether every label is the one that stood there before
 abbrev pub ByPanels : List Float → List Float → ℕ → List Float → List Float → List ℕ → List ℕ → List Float → Bool → Type 0
 ByPanels values own dim panels norms labels₀ labels distances same =
-    (labels ≡ tabulate (λ i. byPanels values own dim panels norms i .label) (length labels₀))
-    × ((distances ≡ tabulate (λ i. byPanels values own dim panels norms i .distance) (length labels₀)) × (same ≡ alike labels₀ labels))
+    (labels ≡ tabulate (λ i. byPanels (rowAt values dim i) (getD own i nan) panels norms .label) (length labels₀))
+    × ((distances ≡ tabulate (λ i. byPanels (rowAt values dim i) (getD own i nan) panels norms .distance) (length labels₀)) × (same ≡ sameAll labels₀ labels))
 
 abbrev pub Assigned : List Row → List Row → List ℕ → List ℕ → List Float → Bool → Type 0
 Assigned centroids rows labels₀ labels distances same =
-    (labels ≡ labelsOf (nearests centroids rows)) × ((distances ≡ distancesOf (nearests centroids rows)) × (same ≡ alike labels₀ labels))
+    (labels ≡ labelsOf (nearests centroids rows)) × ((distances ≡ distancesOf (nearests centroids rows)) × (same ≡ sameAll labels₀ labels))
 
-module _ {dim k : ℕ} {values own centroids : List Float} {n m : ℕ} (a : Assignable dim k values own centroids n m) where
+module _ (dim k : ℕ) (values own centroids : List Float) (n m : ℕ) (a : Assignable dim k values own centroids n m) where
   -- row i's norm is at hand, and row i is dim long
   same-nearest : (cells : ℕ) → (k + 15) / 16 * (16 * dim) ≤ cells → (i : ℕ) → i < n
-      → byPanels values own dim (panelsOf centroids dim k cells) (normsOf (rowsFrom dim k centroids)) i ≡ nearest (rowsFrom dim k centroids) (rowAt values dim i)
+      → byPanels (rowAt values dim i) (getD own i nan) (panelsOf centroids dim k cells) (normsOf (rowsFrom dim k centroids)) ≡ nearest (rowsFrom dim k centroids) (rowAt values dim i)
   same-nearest cells wide i h =
-      let fits : i * dim + dim ≤ length values = omega (arith, room i n dim h, a .value-cells) in
+      let fits : i * dim + dim ≤ length values = omega (arith, room i n dim h, a .1 .0) in
       let norm-is : getD own i nan ≡ normOf (rowAt values dim i)
-      = ap (λ (l : List Float). getD l i nan) (a .measured ∙ map-rows normOf dim n values) ∙ getD-tab (λ j. normOf (rowAt values dim j)) n i nan h in
-      rw norm-is (by-panels (rowAt values dim i) centroids dim k cells (a .centroid-cells) wide (length-take-le dim (drop (i * dim) values) (rw length-drop (omega arith))))
+      = ap (λ (l : List Float). getD l i nan) (a .1 .1 .1 .1 ∙ map-rows normOf dim n values) ∙ getD-tab (λ j. normOf (rowAt values dim j)) n i nan h in
+      rw norm-is (by-panels (rowAt values dim i) centroids dim k cells (a .1 .1 .0) wide (length-take-le dim (drop (i * dim) values) (rw length-drop (omega arith))))
 
   pub by-centroids : {panels norms : List Float} (labels₀ labels : List ℕ) (distances : List Float) (same : Bool) (cells : ℕ) → (k + 15) / 16 * (16 * dim) ≤ cells
       → length labels₀ ≡ n → panels ≡ panelsOf centroids dim k cells → norms ≡ normsOf (rowsFrom dim k centroids)

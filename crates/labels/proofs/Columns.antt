@@ -15,11 +15,19 @@ use Rattle.sums.specs.Tables.{tabulate}
 use Rattle.sums.proofs.Tables.{getD-tab, length-tab, tab-same}
 use Rattle.sums.proofs.Rows.{room, row-of, cell-of}
 use Rattle.sums.proofs.Sums.{dot-snoc}
-use Rattle.labels.specs.Panels.{valueAt, lineOf, panelOf, panelsOf, columnOf, laneOf, dotsOf}
+use Rattle.labels.specs.Panels.{valueAt, panelsOf, columnOf, dotsOf}
 
 -- ---- sixteen dots: the dot of the row's first i values with column j
 abbrev pub laneAt : List Float → Float → List Float → ℕ → ℕ → Float
 laneAt acc x panel at j = add binary32 (getD acc j nan) (mul binary32 x (getD panel (at + j) nan))
+
+-- sixteen sums, each with one product more
+unfoldable pub laneOf : List Float → Float → List Float → ℕ → List Float
+laneOf acc x panel at = tabulate (laneAt acc x panel at) 16
+
+pub lane-is : (acc : List Float) (x : Float) (panel : List Float) (at : ℕ) → tabulate (laneAt acc x panel at) 16 ≡ laneOf acc x panel at
+unfolding laneOf
+lane-is acc x panel at = refl
 
 abbrev partAt : Row → List Float → ℕ → ℕ → Float
 partAt row panel i j = dotOf (take i row) (columnOf panel i j)
@@ -46,9 +54,12 @@ lanes-more : (row panel : List Float) (n i : ℕ) → i < length row
     → tabulate (laneAt (tabulate (partAt row panel i) n) (getD row i nan) panel (16 * i)) n ≡ tabulate (partAt row panel (i + 1)) n
 lanes-more row panel n i h = tab-same _ _ n (λ j l. part-more row panel n i j h l)
 
-pub parts-more : (row panel : List Float) (i : ℕ) → i < length row → laneOf (partsOf row panel i) (getD row i nan) panel (16 * i) ≡ partsOf row panel (i + 1)
+lanes-are : (row panel : List Float) (i : ℕ) → i < length row → laneOf (partsOf row panel i) (getD row i nan) panel (16 * i) ≡ partsOf row panel (i + 1)
 unfolding laneOf partsOf
-parts-more row panel i h = lanes-more row panel 16 i h
+lanes-are row panel i h = lanes-more row panel 16 i h
+
+pub parts-more : (row panel acc acc' : List Float) (i : ℕ) → i < length row → acc ≡ partsOf row panel i → acc' ≡ tabulate (laneAt acc (getD row i nan) panel (16 * i)) 16 → acc' ≡ partsOf row panel (i + 1)
+parts-more row panel acc acc' i h e p = p ∙ lane-is acc (getD row i nan) panel (16 * i) ∙ rw e (lanes-are row panel i h)
 
 pub parts-done : (row panel : List Float) → partsOf row panel (length row) ≡ dotsOf row panel
 unfolding partsOf dotsOf
@@ -68,7 +79,7 @@ module _ (centroids : List Float) (dim k : ℕ) where
   inPanels p = valueAt centroids dim k (16 * (p / 16 / dim) + p % 16) (p / 16 % dim)
 
   -- line d of a panel
-  pub line-is : (first d : ℕ) → lineOf centroids dim k first d ≡ tabulate (λ j. inPanel first (16 * d + j)) 16
+  pub line-is : (first d : ℕ) → tabulate (λ j. valueAt centroids dim k (first + j) d) 16 ≡ tabulate (λ j. inPanel first (16 * d + j)) 16
   line-is first d = lines 16 (omega arith)
     where
       lines : (n : ℕ) → n ≤ 16 → tabulate (λ j. valueAt centroids dim k (first + j) d) n ≡ tabulate (λ j. inPanel first (16 * d + j)) n
@@ -86,8 +97,7 @@ module _ (centroids : List Float) (dim k : ℕ) where
       let l : p / 16 < dim = omega arith in
       rw (q, r, row-of g dim (p / 16) l, cell-of g dim (p / 16) l)
 
-  pub panel-is : (g : ℕ) → panelOf centroids dim k (16 * g) ≡ tabulate (λ p. inPanels (g * (16 * dim) + p)) (16 * dim)
-  unfolding panelOf
+  pub panel-is : (g : ℕ) → tabulate (inPanel (16 * g)) (16 * dim) ≡ tabulate (λ p. inPanels (g * (16 * dim) + p)) (16 * dim)
   panel-is g = sym (tab-same (λ p. inPanels (g * (16 * dim) + p)) (inPanel (16 * g)) (16 * dim) (place-in g))
 
 -- ---- column j of panel g is centroid 16·g + j

@@ -18,7 +18,7 @@ use Rattle.sums.proofs.Orders.{InOrder, order-in-order, take-in-order, place-ta
 use Rattle.sums.proofs.Weighs.{one}
 use Rattle.labels.specs.Label.{score, nothingYet, nearest, nearests, distancesOf}
 use Rattle.labels.specs.Pool.{farther, blockPool, blockPools, pool}
-use Rattle.labels.specs.Inside.{Holds, Pooled}
+use Rattle.labels.specs.Inside.{Holds}
 use Rattle.sums.proofs.Counts.{Distinct, weigh-take, weigh-order}
 use Rattle.sums.proofs.Fronts.{length-cut}
 use Rattle.sums.proofs.Belows.{below-nil, below-more, below-order}
@@ -83,10 +83,10 @@ module _ (ds : List Float) (known : Known ds) (front : List ℕ) (p q : ℕ) (b 
 -- The same of `insert_candidate`, by its contract: the cells of a full pool hold after the call what they held before it.
 pub equal-later-is-not-inserted : (ds : List Float) → Known ds → (at at' : List ℕ) (cap r p q : ℕ) (front : List ℕ) → Holds ds at cap cap → take cap at ≡ front ++ (q ∷ []) → length front + 1 ≡ cap
     → InOrder (farther ds) (take cap at) → p < length ds → eq (getD ds p nan) (getD ds q nan) ≡ true → q < p
-    → Pooled ds at cap cap (p ∷ []) r at' → take r at' ≡ take cap at
+    → take r at' ≡ take cap (orderFrom (farther ds) (take cap at) (p ∷ [])) → take r at' ≡ take cap at
 unfolding orderFrom
 equal-later-is-not-inserted ds known at at' cap r p q front h w f o i e l d =
-    d .front ∙ rw (w, ← f) (equal-later-stays-out ds known front p q (rw w at (h .below)) (rw w at o) i e l)
+    d ∙ rw (w, ← f) (equal-later-stays-out ds known front p q (rw w at (h .1 .1 .1)) (rw w at o) i e l)
 
 -- The distances that labelling gives are never NaN, so that the pool's order is total on them.
 pub distances-known : (centroids rows : List Row) → Known (distancesOf (nearests centroids rows))

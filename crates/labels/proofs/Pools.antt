@@ -14,39 +14,53 @@ use Rattle.sums.specs.Cells.{inserted, Below}
 use Rattle.sums.specs.Ordering.{place, placeOf, orderFrom}
 use Rattle.sums.proofs.Orders.{order-append, order-take}
 use Rattle.labels.specs.Pool.{farther, blockPool, blockPools, pool}
-use Rattle.labels.specs.Inside.{Holds, Pooled}
+use Rattle.labels.specs.Inside.{Holds}
 use Rattle.labels.proofs.Blocks.{below-block, blocks-none}
 use Rattle.sums.proofs.Inserts.{place-within, place-past, place-in, inserted-rest}
 use Rattle.sums.proofs.Belows.{below-nil, below-at, below-take, below-place}
 
+-- the pool after the positions listed were put to it, cut to cap: in the first r cells, and the rest as it was
+pub record Pooled (distances : List Float) (at : List ℕ) (count cap : ℕ) (listed : List ℕ) (r : ℕ) (at' : List ℕ) : Type 0 where
+  pub front : take r at' ≡ take cap (orderFrom (farther distances) (take count at) listed)
+  pub rest : drop cap at' ≡ drop cap at
+  pub held : Holds distances at' r cap
+
+-- to and from what a contract says
+module _ {ds : List Float} {at : List ℕ} {count cap : ℕ} {listed : List ℕ} {r : ℕ} {at' : List ℕ} where
+  pub pooled-in : (take r at' ≡ take cap (orderFrom (farther ds) (take count at) listed)) × ((drop cap at' ≡ drop cap at) × Holds ds at' r cap) → Pooled ds at count cap listed r at'
+  pooled-in p = record { front = p .0; rest = p .1 .0; held = p .1 .1 }
+
+  pub pooled-out : Pooled ds at count cap listed r at' → (take r at' ≡ take cap (orderFrom (farther ds) (take count at) listed)) × ((drop cap at' ≡ drop cap at) × Holds ds at' r cap)
+  pooled-out p = (p .front, (p .rest, p .held))
+
 -- ---- one insertion
 module _ (ds : List Float) (at : List ℕ) (count cap p : ℕ) (h : Holds ds at count cap) (l : p < length ds) where
   below-in : Below (length ds) (take cap (place (farther ds) p (take count at)))
-  below-in = below-take (length ds) cap (place (farther ds) p (take count at)) (below-place (farther ds) (length ds) p (take count at) l (h .below))
+  below-in = below-take (length ds) cap (place (farther ds) p (take count at)) (below-place (farther ds) (length ds) p (take count at) l (h .1 .1 .1))
 
   -- at the end of a full pool nothing changes
   pub stays : cap ≤ placeOf (farther ds) p (take count at) → Pooled ds at count cap (p ∷ []) count at
   unfolding orderFrom
   stays e =
-      let w = place-within (farther ds) at count cap p (h .within) (h .room) in
-      record { front = place-past (farther ds) at count cap p (h .within) (h .room) (omega (arith, h .within, w)) (omega (arith, h .within, w)); rest = refl; held = h }
+      let w = place-within (farther ds) at count cap p (h .1 .0) (h .1 .1 .0) in
+      record { front = place-past (farther ds) at count cap p (h .1 .0) (h .1 .1 .0) (omega (arith, h .1 .0, w)) (omega (arith, h .1 .0, w)); rest = refl; held = h }
 
   -- the last of a full pool falls out, or there is room left
   pub goes-in : (to last r : ℕ) (at' : List ℕ) → at' ≡ inserted at to last p → length at' ≡ length at → r ≡ last + 1 → to ≡ placeOf (farther ds) p (take count at) → to ≤ last → last ≤ count → last < cap → (last + 1 ≡ cap) ⊎ (last ≡ count)
       → Pooled ds at count cap (p ∷ []) r at'
   unfolding orderFrom
   goes-in to last r at' i k f e a b c w =
-      let g : take r at' ≡ take cap (place (farther ds) p (take count at)) = rw (f, i) (place-in (farther ds) at count cap p (h .within) (h .room) to last e a b c w) in
+      let g : take r at' ≡ take cap (place (farther ds) p (take count at)) = rw (f, i) (place-in (farther ds) at count cap p (h .1 .0) (h .1 .1 .0) to last e a b c w) in
       record {
         front = g;
-        rest = rw i (inserted-rest at to last p a (omega (arith, h .room)) cap c);
-        held = record { some = h .some; within = omega arith; room = omega (arith, h .room); below = rw g below-in };
+        rest = rw i (inserted-rest at to last p a (omega (arith, h .1 .1 .0)) cap c);
+        held = (h .0, (omega arith, (omega (arith, h .1 .1 .0), rw g below-in)));
       }
 
 -- ---- insertions one after the other
 pub pooled-none : (ds : List Float) (at : List ℕ) (count cap : ℕ) → Holds ds at count cap → Pooled ds at count cap [] count at
 unfolding orderFrom
-pooled-none ds at count cap h = record { front = sym (take-all cap (take count at) (omega (arith, h .within, length-take-le count at (omega (arith, h .within, h .room))))); rest = refl; held = h }
+pooled-none ds at count cap h = record { front = sym (take-all cap (take count at) (omega (arith, h .1 .0, length-take-le count at (omega (arith, h .1 .0, h .1 .1 .0))))); rest = refl; held = h }
 
 pub pooled-then : (ds : List Float) (at at' at″ : List ℕ) (count r r' cap : ℕ) (l m : List ℕ) → Pooled ds at count cap l r at' → Pooled ds at' r cap m r' at″ → Pooled ds at count cap (l ++ m) r' at″
 pooled-then ds at at' at″ count r r' cap l m a b = record {
@@ -56,7 +70,7 @@ pooled-then ds at at' at″ count r r' cap l m a b = record {
 }
 
 pub empty : (ds : List Float) (at : List ℕ) (cap : ℕ) → 0 < cap → cap ≤ length at → Pooled ds at 0 cap [] 0 at
-empty ds at cap p h = pooled-none ds at 0 cap (record { some = p; within = omega arith; room = h; below = below-nil (length ds) })
+empty ds at cap p h = pooled-none ds at 0 cap (p, (omega arith, (h, below-nil (length ds))))
 
 -- ---- a block's own pool: the positions below i are in
 pub block-step : (ds : List Float) (at₀ at at' : List ℕ) (count r i : ℕ) → Pooled ds at₀ 0 8 (upTo i) count at → Pooled ds at count 8 (i ∷ []) r at' → Pooled ds at₀ 0 8 (upTo (i + 1)) r at'
@@ -64,7 +78,7 @@ block-step ds at₀ at at' count r i a b = rw (add-one i) (pooled-then ds at₀ 
 
 pub block-end : (ds : List Float) (at₀ at : List ℕ) (count i : ℕ) → i ≡ length ds → Pooled ds at₀ 0 8 (upTo i) count at → (take count at ≡ blockPool ds) × (count ≤ 8)
 unfolding blockPool
-block-end ds at₀ at count i e a = (a .front ∙ rw e, a .held .within)
+block-end ds at₀ at count i e a = (a .front ∙ rw e, a .held .1 .0)
 
 -- ---- a block's pool put to the joined pool: the first n of `inside` are the block's, i of them are in
 module _ (ds : List Float) (start end : ℕ) (inside : List ℕ) (n : ℕ) (l : end ≤ length ds) (room : n ≤ length inside) (e : take n inside ≡ blockPool (take (end - start) (drop start ds))) where

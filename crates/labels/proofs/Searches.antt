@@ -15,7 +15,7 @@ use Rattle.sums.proofs.Rows.{room, map-rows}
 use Rattle.labels.specs.declared.nearest.Nearest.{Nearest}
 use Rattle.labels.specs.Label.{scoreFrom, score, better, nearestFrom, nothingYet, nearest}
 use Rattle.labels.specs.Panels.{columnOf, panelsOf, dotsOf}
-use Rattle.labels.specs.Inside.{panelScores, normsOf, Scanned}
+use Rattle.labels.specs.Inside.{normsOf, byPanels}
 use Rattle.labels.proofs.Columns.{column-centroid, dots-at}
 
 from-append : (i : ℕ) (l m : List Float) (best : Nearest) → nearestFrom i (l ++ m) best ≡ nearestFrom (i + length l) m (nearestFrom i l best)
@@ -34,13 +34,17 @@ pub from-more : (i : ℕ) (f : ℕ → Float) (n : ℕ) (best : Nearest)
 unfolding nearestFrom
 from-more i f n best = rw add-one (from-append i (tabulate f n) (f n ∷ []) best ∙ rw length-tab)
 
+-- the best after `count` clusters from `from` on, by their dots with the row
+abbrev pub Scanned : Nearest → Float → List Float → List Float → ℕ → ℕ → Nearest
+Scanned best own dots norms from count = nearestFrom from (tabulate (λ j. scoreFrom own (getD norms (from + j) nan) (getD dots j nan)) count) best
+
 -- ---- by panels: cluster c is column c % 16 of panel c / 16
 unfoldable pub panelScore : Row → Float → List Float → List Float → ℕ → Float
 panelScore row own panels norms c =
     scoreFrom own (getD norms c nan) (dotOf row (columnOf (rowAt panels (16 * length row) (c / 16)) (length row) (c % 16)))
 
-pub panel-scores : (row : Row) (own : Float) (panels norms : List Float) → panelScores row own panels norms ≡ tabulate (panelScore row own panels norms) (length norms)
-unfolding panelScores panelScore
+pub panel-scores : (row : Row) (own : Float) (panels norms : List Float) → byPanels row own panels norms ≡ nearestFrom 0 (tabulate (panelScore row own panels norms) (length norms)) nothingYet
+unfolding byPanels panelScore
 panel-scores row own panels norms = refl
 
 -- `n` clusters more, from `from` on, where their panel starts: their dots are the first of `dots`
@@ -78,9 +82,9 @@ module _ (row : Row) (centroids : List Float) (dim k n : ℕ) (size : length cen
         getD-tab (λ i. normOf (rowAt centroids dim i)) k c nan h,
       )
 
-  pub by-panels : nearestFrom 0 (panelScores row (normOf row) (panelsOf centroids dim k n) (normsOf (rowsFrom dim k centroids))) nothingYet ≡ nearest (rowsFrom dim k centroids) row
+  pub by-panels : byPanels row (normOf row) (panelsOf centroids dim k n) (normsOf (rowsFrom dim k centroids)) ≡ nearest (rowsFrom dim k centroids) row
   unfolding nearest
   by-panels =
-      ap (λ (scores : List Float). nearestFrom 0 scores nothingYet)
-      (panel-scores row (normOf row) (panelsOf centroids dim k n) (normsOf (rowsFrom dim k centroids))
-      ∙ rw (norms-length dim k centroids) (tab-same _ _ k one-score ∙ sym (map-rows (score row) dim k centroids)))
+      panel-scores row (normOf row) (panelsOf centroids dim k n) (normsOf (rowsFrom dim k centroids))
+      ∙ ap (λ (scores : List Float). nearestFrom 0 scores nothingYet)
+      (rw (norms-length dim k centroids) (tab-same _ _ k one-score ∙ sym (map-rows (score row) dim k centroids)))

@@ -14,16 +14,13 @@ use Rattle.labels.specs.declared.label.LabelAnswer.the-variants.{Labelle
 
 -- 1: rows, dim or k out of range; 2: a slice is not as long as they say
 unfoldable pub labelRefusal : ℕ → ℕ → ℕ → ℕ → ℕ → ℕ → ℕ
-labelRefusal rows dim k values centroids cells =
-    lowest (
+labelRefusal rows dim k values centroids cells = lowest (
     (within 0 4096 rows && within 1 64 dim && within 1 64 k)
-    ∷ (eqb values (rows * dim) && eqb centroids (k * dim) && eqb cells rows)
-    ∷ [])
+    ∷ (eqb values (rows * dim) && eqb centroids (k * dim) && eqb cells rows) ∷ [])
 
 -- the labels, one a row
 unfoldable pub labelCall : ℕ → ℕ → ℕ → List Float → List Float → ℕ → Answer (List ℕ)
-labelCall rows dim k values centroids cells =
-    unless (labelRefusal rows dim k (length values) (length centroids) cells)
+labelCall rows dim k values centroids cells = unless (labelRefusal rows dim k (length values) (length centroids) cells)
     (accepted (labelsOf (nearests (rowsFrom dim k centroids) (rowsFrom dim rows values))))
 
 -- each case of the code's enum in 01's terms; an acceptance carries no number

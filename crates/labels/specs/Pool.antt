@@ -10,8 +10,7 @@ use Rattle.sums.specs.Ordering.{order}
 
 -- of two positions the one with the larger distance comes first, and of two alike the earlier
 unfoldable pub farther : List Float → ℕ → ℕ → Bool
-farther distances a b =
-    lt (getD distances b nan) (getD distances a nan) || (not (lt (getD distances a nan) (getD distances b nan)) && ltb a b)
+farther distances a b = lt (getD distances b nan) (getD distances a nan) || (not (lt (getD distances a nan) (getD distances b nan)) && ltb a b)
 
 -- the first eight of a block, or all if fewer, as positions inside the block
 unfoldable pub blockPool : List Float → List ℕ

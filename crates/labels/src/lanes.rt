@@ -1,13 +1,15 @@
 // Sixteen dots at once: each in ascending order, with an accumulator of its own, so that every one is the stated sum.
 ghost use mathlib.Core.Path.{_≡_};
-ghost use Prim.Native.Nat.{_+_, _*_, _≤_, _<_};
-ghost use lib.ListN.{length};
-ghost use Rattle.labels.specs.Panels.{laneOf, dotsOf, valueAt, lineOf, panelOf, panelsOf};
+ghost use Prim.Native.Nat.{_+_, _*_, _/_, _%_, _≤_, _<_};
+ghost use lib.ListN.{length, getD};
+ghost use lib.Ieee.{nan, binary32, add, mul};
+ghost use Rattle.sums.specs.Tables.{tabulate};
+ghost use Rattle.labels.specs.Panels.{dotsOf, valueAt, panelsOf};
 
 // acc with x times each of the sixteen values of panel from `at` on added.
 fn lane16(acc: &mut [f32; 16], x: f32, panel: &[f32], at: usize)
     requires { ⌜ (length (now acc) ≡ 16) × (at + 16 ≤ length (now panel)) ⌝ }
-    ensures { λ _. ⌜ now (acc .exit) ≡ laneOf (now (acc .entry)) x (now (panel .entry)) at ⌝ }
+    ensures { λ _. ⌜ now (acc .exit) ≡ tabulate (λ j. add binary32 (getD (now (acc .entry)) j nan) (mul binary32 x (getD (now (panel .entry)) (at + j) nan))) 16 ⌝ }
 {
     for j in 0..16usize {
         acc[j] = acc[j] + x * panel[at + j];
@@ -67,7 +69,7 @@ fn value_at(centroids: &[f32], dim: usize, k: usize, c: usize, d: usize) -> f32
 // One line of a panel: value d of sixteen centroids.
 fn fill_line(line: &mut [f32], centroids: &[f32], dim: usize, k: usize, first: usize, d: usize)
     requires { ⌜ (length (now line) ≡ 16) × ((length (now centroids) ≡ k * dim) × ((d < dim) × (first + 16 ≤ 4096))) ⌝ }
-    ensures { λ _. ⌜ now (line .exit) ≡ lineOf (now (centroids .entry)) dim k first d ⌝ }
+    ensures { λ _. ⌜ now (line .exit) ≡ tabulate (λ j. valueAt (now (centroids .entry)) dim k (first + j) d) 16 ⌝ }
 {
     let mut j = 0usize;
     while j < line.len() {
@@ -76,9 +78,10 @@ fn fill_line(line: &mut [f32], centroids: &[f32], dim: usize, k: usize, first: u
     }
 }
 
+// One panel: dim lines, of the centroids from `first` on.
 fn fill_panel(panel: &mut [f32], centroids: &[f32], dim: usize, k: usize, first: usize)
     requires { ⌜ (length (now panel) ≡ 16 * dim) × ((length (now centroids) ≡ k * dim) × (first + 16 ≤ 4096)) ⌝ }
-    ensures { λ _. ⌜ now (panel .exit) ≡ panelOf (now (centroids .entry)) dim k first ⌝ }
+    ensures { λ _. ⌜ now (panel .exit) ≡ tabulate (λ p. valueAt (now (centroids .entry)) dim k (first + p % 16) (p / 16)) (16 * dim) ⌝ }
 {
     let mut d = 0usize;
     while d < dim {

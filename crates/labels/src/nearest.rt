@@ -5,11 +5,12 @@ ghost use Prim.Native.Nat.{_+_, _-_, _*_, _/_, _≤_, _<_};
 ghost use lib.Dec.{eqb};
 ghost use lib.ListN.{length, getD, set};
 ghost use lib.Ieee.{nan};
-ghost use Rattle.sums.specs.Rows.{rowsFrom};
+ghost use Rattle.sums.specs.Rows.{rowsFrom, rowAt};
 ghost use Rattle.sums.specs.Tables.{tabulate};
+ghost use Rattle.sums.specs.Refusals.{sameAll};
 ghost use Rattle.sums.specs.Sums.{infinity as Sums·infinity, normOf};
-ghost use Rattle.labels.specs.Label.{scoreFrom, better as Label·better, nearestFrom, nothingYet, nearests, labelsOf, distancesOf};
-ghost use Rattle.labels.specs.Inside.{normsOf, alike, panelScores, byPanels, Assignable, Scanned};
+ghost use Rattle.labels.specs.Label.{scoreFrom, better as Label·better, nearestFrom, nearests, labelsOf, distancesOf};
+ghost use Rattle.labels.specs.Inside.{normsOf, byPanels, Assignable};
 use crate::lanes;
 
 // A cluster, and the score of a row against it.
@@ -56,7 +57,7 @@ fn scan16(
     count: usize,
 ) -> Nearest
     requires { ⌜ (count ≤ 16) × ((from + count ≤ length (now norms)) × (length (now norms) ≤ 65536)) ⌝ }
-    ensures { λ r. ⌜ r ≡ Scanned best own (now (dots .entry)) (now (norms .entry)) from count ⌝ }
+    ensures { λ r. ⌜ r ≡ nearestFrom from (tabulate (λ j. scoreFrom own (getD (now (norms .entry)) (from + j) nan) (getD (now (dots .entry)) j nan)) count) best ⌝ }
 {
     let mut found = best;
     let mut j = 0usize;
@@ -78,7 +79,7 @@ fn scan16(
 fn find_nearest(row: &[f32], own: f32, panels: &[f32], norms: &[f32]) -> Nearest
     requires { ⌜ (length (now row) ≤ 64) × (length (now norms) ≤ 64) ⌝ }
     requires { ⌜ (length (now norms) + 15) / 16 * (16 * length (now row)) ≤ length (now panels) ⌝ }
-    ensures { λ r. ⌜ r ≡ nearestFrom 0 (panelScores (now (row .entry)) own (now (panels .entry)) (now (norms .entry))) nothingYet ⌝ }
+    ensures { λ r. ⌜ r ≡ byPanels (now (row .entry)) own (now (panels .entry)) (now (norms .entry)) ⌝ }
 {
     let k = norms.len();
     let wide = 16 * row.len();
@@ -123,7 +124,8 @@ fn scan16_pair(
     count: usize,
 ) -> NearestPair
     requires { ⌜ (count ≤ 16) × ((from + count ≤ length (now norms)) × (length (now norms) ≤ 65536)) ⌝ }
-    ensures { λ r. ⌜ (r .first ≡ Scanned (best .first) own (dots .first) (now (norms .entry)) from count) × (r .second ≡ Scanned (best .second) other (dots .second) (now (norms .entry)) from count) ⌝ }
+    ensures { λ r. ⌜ r .first ≡ nearestFrom from (tabulate (λ j. scoreFrom own (getD (now (norms .entry)) (from + j) nan) (getD (dots .first) j nan)) count) (best .first) ⌝ }
+    ensures { λ r. ⌜ r .second ≡ nearestFrom from (tabulate (λ j. scoreFrom other (getD (now (norms .entry)) (from + j) nan) (getD (dots .second) j nan)) count) (best .second) ⌝ }
 {
     let first = dots.first;
     let second = dots.second;
@@ -153,8 +155,8 @@ fn find_nearest_pair(
 ) -> NearestPair
     requires { ⌜ (length (now second) ≡ length (now row)) × ((length (now row) ≤ 64) × (length (now norms) ≤ 64)) ⌝ }
     requires { ⌜ (length (now norms) + 15) / 16 * (16 * length (now row)) ≤ length (now panels) ⌝ }
-    ensures { λ r. ⌜ r .first ≡ nearestFrom 0 (panelScores (now (row .entry)) own (now (panels .entry)) (now (norms .entry))) nothingYet ⌝ }
-    ensures { λ r. ⌜ r .second ≡ nearestFrom 0 (panelScores (now (second .entry)) other (now (panels .entry)) (now (norms .entry))) nothingYet ⌝ }
+    ensures { λ r. ⌜ r .first ≡ byPanels (now (row .entry)) own (now (panels .entry)) (now (norms .entry)) ⌝ }
+    ensures { λ r. ⌜ r .second ≡ byPanels (now (second .entry)) other (now (panels .entry)) (now (norms .entry)) ⌝ }
 {
     let k = norms.len();
     let wide = 16 * row.len();
@@ -226,9 +228,9 @@ fn assign_by_panels(
 ) -> bool
     requires { ⌜ (length (now values) ≡ length (now labels) * dim) × ((length (now distances) ≡ length (now labels)) × (length (now own) ≡ length (now labels))) ⌝ }
     requires { ⌜ (dim ≤ 64) × ((length (now norms) ≤ 64) × ((length (now norms) + 15) / 16 * (16 * dim) ≤ length (now panels))) ⌝ }
-    ensures { λ _. ⌜ now (labels .exit) ≡ tabulate (λ i. byPanels (now (values .entry)) (now (own .entry)) dim (now (panels .entry)) (now (norms .entry)) i .label) (length (now (labels .entry))) ⌝ }
-    ensures { λ _. ⌜ now (distances .exit) ≡ tabulate (λ i. byPanels (now (values .entry)) (now (own .entry)) dim (now (panels .entry)) (now (norms .entry)) i .distance) (length (now (labels .entry))) ⌝ }
-    ensures { λ r. ⌜ r ≡ alike (now (labels .entry)) (now (labels .exit)) ⌝ }
+    ensures { λ _. ⌜ now (labels .exit) ≡ tabulate (λ i. byPanels (rowAt (now (values .entry)) dim i) (getD (now (own .entry)) i nan) (now (panels .entry)) (now (norms .entry)) .label) (length (now (labels .entry))) ⌝ }
+    ensures { λ _. ⌜ now (distances .exit) ≡ tabulate (λ i. byPanels (rowAt (now (values .entry)) dim i) (getD (now (own .entry)) i nan) (now (panels .entry)) (now (norms .entry)) .distance) (length (now (labels .entry))) ⌝ }
+    ensures { λ r. ⌜ r ≡ sameAll (now (labels .entry)) (now (labels .exit)) ⌝ }
 {
     let mut same = true;
     let mut i = 0usize;
@@ -266,7 +268,7 @@ pub fn assign_rows(
     requires { ⌜ Assignable dim k (now values) (now own) (now centroids) (length (now labels)) (length (now distances)) ⌝ }
     ensures { λ _. ⌜ now (labels .exit) ≡ labelsOf (nearests (rowsFrom dim k (now (centroids .entry))) (rowsFrom dim (length (now (labels .entry))) (now (values .entry)))) ⌝ }
     ensures { λ _. ⌜ now (distances .exit) ≡ distancesOf (nearests (rowsFrom dim k (now (centroids .entry))) (rowsFrom dim (length (now (labels .entry))) (now (values .entry)))) ⌝ }
-    ensures { λ r. ⌜ r ≡ alike (now (labels .entry)) (now (labels .exit)) ⌝ }
+    ensures { λ r. ⌜ r ≡ sameAll (now (labels .entry)) (now (labels .exit)) ⌝ }
 {
     let mut room = [0.0f32; 4096];
     let mut lengths = [0.0f32; 64];

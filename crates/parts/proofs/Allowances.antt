@@ -13,8 +13,8 @@ use lib.Ieee.Back.{round-whole}
 use lib.Ieee.Fits.{down-pos}
 use lib.Ieee.Order.{round-mono}
 use lib.Ieee.Positive.{positive, above, above-of-le, positive-of-value, own-value, cross→le, values-of-le, mul-at, mul-mono}
-use Rattle.sums.specs.Sums.{zero32, count32}
-use Rattle.parts.specs.Balance.{allowance, allowed}
+use Rattle.sums.specs.Sums.{zero32, one32, count32}
+use Rattle.parts.specs.Balance.{allowed}
 
 -- ---- general laws of floats and whole numbers, for any width
 -- neither negative nor NaN
@@ -130,6 +130,10 @@ module _ (s : ℕ) (p : 0 < s) (q : s < 16777216) where
           let k : s ≤ m * up e / down e = le-div-iff-mul-le (down-pos e) .1 (omega arith) in
           (tt, omega arith)
 
+-- the allowance before it is cut to a whole number
+unfoldable pub allowance : ℕ → Float → Float
+allowance share weight = mul binary32 (count32 share) (add binary32 one32 weight)
+
 -- the share grown by a weight above zero is a plain number, and cut it is no less than the share
 pub share-allowed : (s : ℕ) (w : Float) → 0 < s → s ≤ 4096 → lt zero32 w ≡ true → plain (allowance s w) × (s ≤ allowed s w)
 unfolding ofInt allowance allowed
@@ -140,5 +144,5 @@ share-allowed s w p q h =
 
 -- the code's test is the definition's
 pub over-test : (s n : ℕ) (w : Float) → n ≤ 4096 → plain (allowance s w) → lt (allowance s w) (count32 n) ≡ ltb (allowed s w) n
-unfolding allowed
+unfolding allowance allowed
 over-test s n w h p = above-cut 64 (allowance s w) n (omega arith) (omega arith) p

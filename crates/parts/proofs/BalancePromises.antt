@@ -16,7 +16,7 @@ use Rattle.sums.specs.Cells.{Below}
 use Rattle.sums.proofs.Tables.{length-tab}
 use Rattle.sums.proofs.Weighs.{one, countOf, Same}
 use Rattle.parts.specs.Parts.{having, gathered, sizesOf, flat}
-use Rattle.parts.specs.Balance.{share, allowance, allowed, seek, closestFrom, closestOf, toward, balanced, moves, balance}
+use Rattle.parts.specs.Balance.{share, allowed, seek, closestFrom, closestOf, toward, balanced, moves, balance}
 use Rattle.parts.proofs.Rounds.{Balanced}
 use Rattle.parts.proofs.Gathers.{gathered-weigh}
 use Rattle.parts.proofs.Nearest.{toward-in}
@@ -86,26 +86,26 @@ abbrev quarter : Float
 quarter = fin false 1 (negsuc 1)
 
 p3-allowance : allowed 20 quarter ≡ 25
-unfolding allowed allowance toUnsigned ofInt mul add
+unfolding allowed toUnsigned ofInt mul add
 p3-allowance = refl
 
 p3-sizes : sizesOf (balance [] [] 20 quarter (upTo 40 ∷ [] ∷ [])) ≡ 30 ∷ 10 ∷ []
-unfolding balanced seek closestOf closestFrom apartOf sumFrom allowed allowance toUnsigned ofInt mul add lt
+unfolding balanced seek closestOf closestFrom apartOf sumFrom allowed toUnsigned ofInt mul add lt
 p3-sizes = refl
 
 p3-moves : moves (toward [] []) 20 (allowed 20 quarter) 10 (upTo 40 ∷ [] ∷ []) ≡ 10
-unfolding moves seek closestOf closestFrom apartOf sumFrom allowed allowance toUnsigned ofInt mul add lt
+unfolding moves seek closestOf closestFrom apartOf sumFrom allowed toUnsigned ofInt mul add lt
 p3-moves = refl
 
 -- P4: sizes 30, 0 and 0, weight 1: the allowance is 20, ten rows move, and the sizes are 20, 10 and 0.
 p4-allowance : allowed 10 one32 ≡ 20
-unfolding allowed allowance toUnsigned ofInt mul add
+unfolding allowed toUnsigned ofInt mul add
 p4-allowance = refl
 
 p4-sizes : sizesOf (balance [] [] 10 one32 (upTo 30 ∷ [] ∷ [] ∷ [])) ≡ 20 ∷ 10 ∷ 0 ∷ []
-unfolding balanced seek closestOf closestFrom apartOf sumFrom allowed allowance toUnsigned ofInt mul add lt
+unfolding balanced seek closestOf closestFrom apartOf sumFrom allowed toUnsigned ofInt mul add lt
 p4-sizes = refl
 
 p4-moves : moves (toward [] []) 10 (allowed 10 one32) 10 (upTo 30 ∷ [] ∷ [] ∷ []) ≡ 10
-unfolding moves seek closestOf closestFrom apartOf sumFrom allowed allowance toUnsigned ofInt mul add lt
+unfolding moves seek closestOf closestFrom apartOf sumFrom allowed toUnsigned ofInt mul add lt
 p4-moves = refl

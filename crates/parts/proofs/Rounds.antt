@@ -16,11 +16,11 @@ use Rattle.sums.specs.Sums.{zero32, count32}
 use Rattle.sums.specs.Cells.{Below}
 use Rattle.sums.proofs.Rows.{room, part-row}
 use Rattle.parts.specs.Parts.{sizesOf, flat}
-use Rattle.parts.specs.Balance.{balance, share, allowance, allowed, seek, moved, giver, taker, round, balanced, moves, closestOf, toward}
+use Rattle.parts.specs.Balance.{balance, share, allowed, seek, moved, giver, taker, round, balanced, moves, closestOf, toward}
 use Rattle.parts.specs.Inside.{total}
 use Rattle.parts.proofs.Lists.{cond-same, weigh-set, below-same}
 use Rattle.parts.proofs.Layouts.{sizes-length, sizes-at, total-weigh, start-le, part-at, cut, cut-flat, cut-sizes}
-use Rattle.parts.proofs.Allowances.{plain, share-allowed, over-test}
+use Rattle.parts.proofs.Allowances.{plain, allowance, share-allowed, over-test}
 use Rattle.parts.proofs.Fair.{sizes-moved, moved-flat}
 
 -- ---- one row moved

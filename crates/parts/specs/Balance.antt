@@ -13,13 +13,9 @@ use Rattle.parts.specs.Parts.{sizesOf}
 abbrev pub share : ℕ → ℕ → ℕ
 share rows k = rows / k
 
--- the share times (1.0 + weight) in 32 bits
-unfoldable pub allowance : ℕ → Float → Float
-allowance share weight = mul binary32 (count32 share) (add binary32 one32 weight)
-
--- cut to a whole number of 64 bits, as the source has it: an infinity is above every size
+-- the allowance, the share times (1.0 + weight) in 32 bits, cut to a whole number of 64 bits, as the source has it: an infinity is above every size
 unfoldable pub allowed : ℕ → Float → ℕ
-allowed share weight = toUnsigned 64 (allowance share weight)
+allowed share weight = toUnsigned 64 (mul binary32 (count32 share) (add binary32 one32 weight))
 
 -- the number of the first that passes, and of all where none does
 unfoldable pub seek : (ℕ → Bool) → List ℕ → ℕ
@@ -41,8 +37,7 @@ closestFrom rows centroid place (r ∷ part) best =
 -- the place of the row that is moved toward the centroid: the search starts with the first row, which stays where its distance is a NaN
 unfoldable pub closestOf : List Row → Row → List ℕ → ℕ
 closestOf rows centroid [] = 0
-closestOf rows centroid (r ∷ part) =
-    closestFrom rows centroid 1 part (record { place = 0; apart = apartOf (getD rows r []) centroid }) .place
+closestOf rows centroid (r ∷ part) = closestFrom rows centroid 1 part (record { place = 0; apart = apartOf (getD rows r []) centroid }) .place
 
 -- row j of part g leaves its place, later ones move up, and it goes to the end of part r
 abbrev pub moved : ℕ → ℕ → ℕ → List (List ℕ) → List (List ℕ)

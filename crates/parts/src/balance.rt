@@ -10,14 +10,14 @@ ghost use Rattle.sums.specs.Sums.{zero32};
 ghost use Rattle.sums.specs.Cells.{Below};
 ghost use Rattle.parts.specs.Parts.{sizesOf, flat};
 ghost use Rattle.parts.specs.Balance.{share as Balance·share, allowed, closestOf, moved, balance, moves, toward};
-ghost use Rattle.parts.specs.Inside.{total, rotl, rotr, carried};
+ghost use Rattle.parts.specs.Inside.{total, turned, carried};
 use sums::cells;
 use sums::math;
 
 // The first row goes behind the last.
 fn rotate_left(s: &mut [u16])
     requires { ⌜ 0 < length (now s) ⌝ }
-    ensures { λ _. ⌜ now (s .exit) ≡ rotl (now (s .entry)) ⌝ }
+    ensures { λ _. ⌜ now (s .exit) ≡ turned 1 (now (s .entry)) ⌝ }
 {
     let x = s[0];
     let mut n = 0usize;
@@ -31,7 +31,7 @@ fn rotate_left(s: &mut [u16])
 // The last row goes before the first.
 fn rotate_right(s: &mut [u16])
     requires { ⌜ 0 < length (now s) ⌝ }
-    ensures { λ _. ⌜ now (s .exit) ≡ rotr (now (s .entry)) ⌝ }
+    ensures { λ _. ⌜ now (s .exit) ≡ turned (length (now (s .entry)) - 1) (now (s .entry)) ⌝ }
 {
     let mut n = s.len() - 1;
     let x = s[n];

@@ -2,37 +2,53 @@
 use Prim.Native.Nat.{ℕ, zero, suc, _+_, _-_, _*_, _/_, _%_, _≤_, _<_}
 use mathlib.Core.Path.{_≡_, refl, sym, ap, _∙_}
 use mathlib.Core.Bool.{Bool, true, false, cond, _&&_}
-use mathlib.Core.List.{List, [], _∷_, append-nil}
+use mathlib.Core.List.{List, [], _∷_, map, flatten, append-nil}
 use native.Mathlib.Omega.{arith}
 use native.Mathlib.Numerals.{add-one}
 use borrow.Author.Tests.{eqb-true}
 use lib.Dec.{eqb}
 use lib.ListN.{length, getD, take, drop, replicate, drop-of-length-le}
 use lib.Seq.{drop-cons, take-all, length-take-le}
-use lib.Ieee.{Float}
-use Rattle.sums.specs.Refusals.{Answer, sameAll}
+use lib.Ieee.{Float, binary32, binary64, toBits}
+use Rattle.sums.specs.Sums.{zero32}
+use Rattle.sums.specs.Refusals.{Answer, sameAll, cellsOf, blankCell}
 use Rattle.sums.proofs.Refusing.{both}
 use Rattle.words.specs.Bytes.{u32At, wordsFrom, floatsFrom}
 use Rattle.kmeans.specs.KMeans.{Result}
 use Rattle.kmeans.specs.Call.{kmeansCall}
-use Rattle.bench.specs.Exports.{Gave, KMeansGave, configOf}
+use Rattle.bench.specs.Exports.{codeOf, figureOf, Gave, configOf}
+use Rattle.bench.proofs.Exporting.{KMeansGave}
 use Rattle.batch.specs.Batch.{putFront}
-use Rattle.replay.specs.Replay.{bytesAgree, kmeansSame, kmeansTold, wholeWords, agrees, agreeing}
+use Rattle.replay.specs.Replay.{bytesAgree, agrees, agreeing}
 
 pub bytes-agreed : {A : Type 0} (answer : Answer A) (head stored : List ℕ) (written : A → List ℕ) (n number : ℕ) (result : List ℕ) (r : Bool)
     → r ≡ (eqb number (u32At head 4) && sameAll result stored) → n ≡ length stored → Gave answer n written number result
     → r ≡ bytesAgree head stored written answer
 unfolding bytesAgree
-bytes-agreed answer head stored written n number result r e l g = rw (g .code, g .bytes, l) at e
+bytes-agreed answer head stored written n number result r e l g = rw (g .0, g .1, l) at e
+
+-- what k-means gave against what is stored, by the cells that were lent and by the answer
+abbrev pub kmeansSame : List ℕ → List ℕ → List ℕ → ℕ → ℕ → ℕ → ℕ → Float → List ℕ → List Float → Bool
+kmeansSame head labels centroids n m number restart objective l c =
+    eqb number (u32At head 4) && eqb restart (u32At head 52) && eqb (toBits binary64 objective) (u32At head 56 + 4294967296 * u32At head 60)
+    && sameAll l (wordsFrom n labels) && sameAll (map (toBits binary32) c) (wordsFrom m centroids)
+
+abbrev pub kmeansTold : List ℕ → ℕ → ℕ → List ℕ → List ℕ → Answer Result → Bool
+kmeansTold head n m labels centroids answer =
+    kmeansSame head labels centroids n m (codeOf answer) (figureOf 0 (λ (a : Result). a .restart) answer) (figureOf zero32 (λ (a : Result). a .objective) answer)
+    (cellsOf blankCell n (λ (a : Result). a .labels) answer) (cellsOf zero32 m (λ (a : Result). flatten (a .centroids)) answer)
 
 pub kmeans-agreed : (answer : Answer Result) (head labels centroids : List ℕ) (n m number restart : ℕ) (objective : Float) (l : List ℕ) (c : List Float) (r : Bool)
-    → r ≡ kmeansSame head labels centroids number restart objective l c → KMeansGave answer n m number l c objective restart
+    → r ≡ kmeansSame head labels centroids (length l) (length c) number restart objective l c → length l ≡ n → length c ≡ m
+    → KMeansGave answer n m number l c objective restart
     → r ≡ kmeansTold head n m labels centroids answer
-unfolding kmeansTold
-kmeans-agreed answer head labels centroids n m number restart objective l c r e g =
-    rw (g .code, g .restart-is, g .objective-is, g .labelled, g .centred) at e
+kmeans-agreed answer head labels centroids n m number restart objective l c r e p q g =
+    rw (g .0, g .1 .1 .1 .1, g .1 .1 .1 .0, g .1 .0, g .1 .1 .0) at (rw (p, q) at e)
 
 -- ---- whole words
+abbrev pub wholeWords : ℕ → Bool
+wholeWords n = eqb (n % 4) 0
+
 fourfold : (n : ℕ) → wholeWords n ≡ true → n ≡ n / 4 * 4
 fourfold n e = let h = eqb-true (n % 4) 0 e in omega arith
 

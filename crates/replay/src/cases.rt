@@ -1,13 +1,15 @@
 // One stored case of each operation: the call is made again, and its answer held against the stored one.
 ghost use mathlib.Core.Path.{_≡_};
 ghost use mathlib.Core.Bool.{_&&_};
-ghost use Prim.Native.Nat.{_+_, _*_, _/_, _≤_, _<_};
+ghost use mathlib.Core.List.{map};
+ghost use Prim.Native.Nat.{_+_, _*_, _/_, _%_, _≤_, _<_};
 ghost use lib.Dec.{eqb};
 ghost use lib.ListN.{length};
+ghost use lib.Ieee.{binary32, binary64, toBits};
 ghost use Rattle.sums.specs.Refusals.{sameAll};
-ghost use Rattle.words.specs.Bytes.{u32At};
+ghost use Rattle.words.specs.Bytes.{u32At, wordsFrom};
 ghost use Rattle.batch.specs.Batch.{listingOf};
-ghost use Rattle.replay.specs.Replay.{labelAgrees, closureAgrees, kmeansAgrees, kmeansAgreesOf, kmeansSame, wholeWords};
+ghost use Rattle.replay.specs.Replay.{labelAgrees, closureAgrees, kmeansAgrees, kmeansAgreesOf};
 use crate::same;
 use sums::checks;
 
@@ -81,7 +83,10 @@ fn kmeans_told(
     centroids: &[u8],
 ) -> bool
     requires { ⌜ (length (now head) ≡ 64) × ((length (now labels) ≡ length (now l) * 4) × (length (now centroids) ≡ length (now c) * 4)) ⌝ }
-    ensures { λ r. ⌜ r ≡ kmeansSame (now (head .entry)) (now (labels .entry)) (now (centroids .entry)) number restart objective (now (l .entry)) (now (c .entry)) ⌝ }
+    ensures { λ r. ⌜ r ≡ (eqb number (u32At (now (head .entry)) 4) && eqb restart (u32At (now (head .entry)) 52)
+        && eqb (toBits binary64 objective) (u32At (now (head .entry)) 56 + 4294967296 * u32At (now (head .entry)) 60)
+        && sameAll (now (l .entry)) (wordsFrom (length (now (l .entry))) (now (labels .entry)))
+        && sameAll (map (toBits binary32) (now (c .entry))) (wordsFrom (length (now (c .entry))) (now (centroids .entry)))) ⌝ }
 {
     let number_same = same::numbers(number, words::u32_at(head, 4));
     let a = checks::both(number_same, same::numbers(restart, words::u32_at(head, 52)));
@@ -144,13 +149,13 @@ fn kmeans_inside(
 }
 
 fn whole_words(n: usize) -> bool
-    ensures { λ r. ⌜ r ≡ wholeWords n ⌝ }
+    ensures { λ r. ⌜ r ≡ eqb (n % 4) 0 ⌝ }
 {
     n % 4 == 0
 }
 
 fn all_whole(draws: usize, values: usize, labels: usize, centroids: usize) -> bool
-    ensures { λ r. ⌜ r ≡ (wholeWords draws && wholeWords values && wholeWords labels && wholeWords centroids) ⌝ }
+    ensures { λ r. ⌜ r ≡ (eqb (draws % 4) 0 && eqb (values % 4) 0 && eqb (labels % 4) 0 && eqb (centroids % 4) 0) ⌝ }
 {
     let a = checks::both(whole_words(draws), whole_words(values));
     let b = checks::both(a, whole_words(labels));

@@ -5,19 +5,19 @@ use mathlib.Core.List.{List, [], _∷_}
 use Prim.Native.Nat.{ℕ, zero, suc, _+_}
 use native.Mathlib.Nat.{mod-one}
 use native.Mathlib.Numerals.{unary-clauses}
-use lib.IntN.{negsuc}
+use lib.IntN.{pos, negsuc}
 use lib.ListN.{replicate}
 use lib.Ieee.{Float, fin, lt}
 use Rattle.sums.specs.Tables.{upTo}
 use Rattle.sums.specs.Rows.{Row}
-use Rattle.sums.specs.Sums.{zero32, one32}
+use Rattle.sums.specs.Sums.{zero32, one32, count32}
 use Rattle.sums.specs.Refusals.{refused}
 use Rattle.labels.specs.Label.{nearests}
-use Rattle.kmeans.specs.KMeans.{Fit, update, iterate}
-use Rattle.kmeans.proofs.Iterations.{fixed}
+use Rattle.steps.specs.Steps.{Fit, update, iterate}
+use Rattle.steps.proofs.Iterations.{fixed}
 use Rattle.parts.specs.Balance.{share}
 use Rattle.grouping.specs.Groups.{Rule, balanceIf, partsOf, madeBy, splitFrom}
-use Rattle.worked.specs.Table.{half, three, ten, eleven}
+use Rattle.worked.specs.Table.{half}
 use Rattle.worked.proofs.Opened.{opened}
 
 module _ (draws : List ℕ) (k dim block : ℕ) (training : List Row) where
@@ -40,7 +40,7 @@ ruled rows weight = record { draws = 0 ∷ []; dim = 1; rows = rows; branching =
 -- ---- P1
 
 abbrev pub four : List Row
-four = (zero32 ∷ []) ∷ (one32 ∷ []) ∷ (ten ∷ []) ∷ (eleven ∷ []) ∷ []
+four = (zero32 ∷ []) ∷ (one32 ∷ []) ∷ (count32 10 ∷ []) ∷ (count32 11 ∷ []) ∷ []
 
 -- the first two rows are picked, and two iterations reach the means of both pairs
 abbrev picked : Fit
@@ -60,11 +60,11 @@ P1-parts = rw P1-settles
 -- ---- P2
 
 abbrev five : List Row
-five = replicate 5 (three ∷ [])
+five = replicate 5 (fin false 3 (pos 0) ∷ [])
 
 -- all rows are alike, so the first iteration changes nothing, whatever was drawn before
 abbrev equal : ℕ → Fit
-equal n = at (replicate 2 (three ∷ [])) n
+equal n = at (replicate 2 (fin false 3 (pos 0) ∷ [])) n
 
 P2-settles : (n : ℕ) → iterate (0 ∷ []) 2 1 32768 five 100 (equal n) ≡ equal n
 unfolding opened iterate
@@ -72,7 +72,7 @@ P2-settles n = settled (0 ∷ []) 2 1 32768 five 100 0 (equal n) (equal n) refl 
 
 -- and k-means leaves them together
 P2-together : (weight : Float) (n : ℕ) → partsOf (ruled five weight) n (upTo 5)
-    ≡ balanceIf (lt zero32 weight) five (replicate 2 (three ∷ [])) (share 5 2) weight (upTo 5 ∷ [] ∷ [])
+    ≡ balanceIf (lt zero32 weight) five (replicate 2 (fin false 3 (pos 0) ∷ [])) (share 5 2) weight (upTo 5 ∷ [] ∷ [])
 unfolding opened partsOf
 P2-together weight n = simp mod-one (rw P2-settles)
 

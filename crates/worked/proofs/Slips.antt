@@ -1,7 +1,7 @@
 -- Document 01, 'Slips that look right': each slip as a definition of its own, and an example on which it gives another answer than the product's definition.
 use mathlib.Core.Path.{_≡_, refl, ap}
 use mathlib.Core.Bool.{false, cond}
-use mathlib.Core.List.{List, [], _∷_, _++_, map, flatMap}
+use mathlib.Core.List.{List, [], _∷_, _++_, map, flatMap, foldl}
 use Prim.Native.Nat.{ℕ, zero, suc}
 use native.Mathlib.Omega.{arith}
 use lib.Dec.{ltb}
@@ -10,14 +10,15 @@ use lib.ListN.{length, getD, set, take, replicate}
 use lib.Ieee.{Float, fin, nan, binary64, add, sub, mul, le}
 use Rattle.sums.specs.Tables.{upTo}
 use Rattle.sums.specs.Rows.{Row, rowsAt}
-use Rattle.sums.specs.Sums.{zero32, one32, count32, sumFrom, apartOf, zeroRow}
+use Rattle.sums.specs.Sums.{zero32, one32, count32, sumFrom, apartOf, addRow, zeroRow}
 use Rattle.sums.specs.Ordering.{place}
 use Rattle.sums.specs.Refusals.{Answer, accepted, refused}
 use Rattle.labels.specs.Label.{nearestFrom, nothingYet, nearest}
 use Rattle.labels.specs.Pool.{farther, pool}
-use Rattle.kmeans.specs.KMeans.{Result, timesInverse, iterate, kmeans}
+use Rattle.steps.specs.Steps.{timesInverse, iterate}
+use Rattle.kmeans.specs.KMeans.{Result, kmeans}
 use Rattle.parts.specs.Balance.{share, allowed, closestOf, moved, giver, taker, balance}
-use Rattle.grouping.specs.Groups.{Groups, partsOf, madeBy, waits, after, more, front, back, splitFrom, grouping, addRows, meanOf}
+use Rattle.grouping.specs.Groups.{Groups, partsOf, madeBy, waits, after, front, back, splitFrom, grouping, meanOf}
 use Rattle.worked.specs.Table.{half, grouped}
 use Rattle.worked.proofs.Opened.{opened}
 use Rattle.worked.proofs.Settled.{ruled, four, P1-parts}
@@ -38,7 +39,7 @@ widenedFrom total centroids (l ∷ labels) (r ∷ rows) =
 
 -- the inverse where grouping divides
 abbrev byInverse : ℕ → List Row → List ℕ → Row
-byInverse dim rows group = timesInverse (length group) (addRows (zeroRow dim) (rowsAt rows group))
+byInverse dim rows group = timesInverse (length group) (foldl addRow (zeroRow dim) (rowsAt rows group))
 
 -- balancing toward the mean of the moved rows: the receiver's centroid is the mean of what it holds after a move
 unfoldable pub meanBalanced : ℕ → List Row → ℕ → ℕ → ℕ → List Row → List (List ℕ) → List (List ℕ)
@@ -59,7 +60,7 @@ module _ (parts : ℕ → List ℕ → List (List ℕ)) (made : ℕ → List ℕ
   queuedFrom (suc left) n (g ∷ waiting) =
       let then = waiting ++ flatMap (λ (p : List ℕ). waits p []) (parts n g) in
       let rest = queuedFrom left (made n g) (back limit then) in
-      cond (ltb (length g) branching) (refused 6) (more (after (front limit then) rest))
+      cond (ltb (length g) branching) (refused 6) (after (front limit then) 1 rest)
 
 -- letting an equal later row into a full pool of eight
 abbrev entered : List Float → ℕ → List ℕ → List ℕ

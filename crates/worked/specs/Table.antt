@@ -8,7 +8,7 @@ use lib.IntN.{pos, negsuc}
 use lib.ListN.{length, replicate}
 use lib.Ieee.{Float, fin, nan}
 use Rattle.sums.specs.Rows.{rowsFrom}
-use Rattle.sums.specs.Sums.{zero32, one32, two32}
+use Rattle.sums.specs.Sums.{zero32, one32, two32, count32}
 use Rattle.sums.specs.Refusals.{Answer, accepted, refused}
 use Rattle.labels.specs.Call.{labelCall}
 use Rattle.kmeans.specs.KMeans.{usual}
@@ -19,23 +19,9 @@ use Rattle.parts.specs.Balance.{share, allowed, balance, moves, toward}
 use Rattle.grouping.specs.Groups.{Groups}
 use Rattle.grouping.specs.Call.{lengthsOf, groupingCall}
 
+-- `fin false m e` is m·2^e, and `fin true m e` its opposite; `negsuc n` is the exponent -(n + 1)
 abbrev pub half : Float
 half = fin false 1 (negsuc 0)
-
-abbrev quarter : Float
-quarter = fin false 1 (negsuc 1)
-
-abbrev minusOne : Float
-minusOne = fin true 1 (pos 0)
-
-abbrev pub three : Float
-three = fin false 3 (pos 0)
-
-abbrev pub ten : Float
-ten = fin false 5 (pos 1)
-
-abbrev pub eleven : Float
-eleven = fin false 11 (pos 0)
 
 -- rows of one reading, all alike, and as many centroids
 abbrev pub alike : ℕ → List (List Float)
@@ -55,20 +41,23 @@ abbrev pub grouped : List (List ℕ) → ℕ → Answer Groups
 grouped groups splits = accepted (record { groups = groups; splits = splits })
 
 pub record Table : Type 0 where
-  pub P1 : batch (zero32 ∷ one32 ∷ ten ∷ eleven ∷ []) 2 2 zero32 4 ≡ grouped ((2 ∷ 3 ∷ []) ∷ (0 ∷ 1 ∷ []) ∷ []) 1
-  pub P2 : batch (replicate 5 three) 4 2 zero32 3 ≡ refused 7
-  pub P2-balanced : batch (replicate 5 three) 4 2 half 3 ≡ grouped ((0 ∷ 1 ∷ []) ∷ (2 ∷ 3 ∷ 4 ∷ []) ∷ []) 1
+  pub P1 : batch (zero32 ∷ one32 ∷ count32 10 ∷ count32 11 ∷ []) 2 2 zero32 4 ≡ grouped ((2 ∷ 3 ∷ []) ∷ (0 ∷ 1 ∷ []) ∷ []) 1
+  -- five readings of 3
+  pub P2 : batch (replicate 5 (fin false 3 (pos 0))) 4 2 zero32 3 ≡ refused 7
+  pub P2-balanced : batch (replicate 5 (fin false 3 (pos 0))) 4 2 half 3 ≡ grouped ((0 ∷ 1 ∷ []) ∷ (2 ∷ 3 ∷ 4 ∷ []) ∷ []) 1
   pub P3-share : share 40 2 ≡ 20
-  pub P3-allowance : allowed 20 quarter ≡ 25
-  pub P3-sizes : sizesOf (balance (alike 1) (alike 2) 20 quarter (parts 40 1)) ≡ 30 ∷ 10 ∷ []
+  -- the weight is 0.25
+  pub P3-allowance : allowed 20 (fin false 1 (negsuc 1)) ≡ 25
+  pub P3-sizes : sizesOf (balance (alike 1) (alike 2) 20 (fin false 1 (negsuc 1)) (parts 40 1)) ≡ 30 ∷ 10 ∷ []
   pub P3-moves : moves (toward (alike 1) (alike 2)) 20 25 10 (parts 40 1) ≡ 10
   pub P4 : sizesOf (balance (alike 1) (alike 3) (share 30 3) one32 (parts 30 2)) ≡ 20 ∷ 10 ∷ 0 ∷ []
   pub P5 : labelCall 1 1 2 (one32 ∷ []) (one32 ∷ one32 ∷ []) 1 ≡ accepted (0 ∷ [])
   pub P6 : labelCall 1 1 2 (two32 ∷ []) (nan ∷ two32 ∷ []) 1 ≡ accepted (1 ∷ [])
   pub P7 : labelCall 1 1 2 (nan ∷ []) (one32 ∷ two32 ∷ []) 1 ≡ accepted (0 ∷ [])
-  pub P8 : closureCall zero32 3 1 3 (zero32 ∷ []) (two32 ∷ one32 ∷ minusOne ∷ []) 3 ≡ accepted (1 ∷ 2 ∷ [])
-  pub P8-wide : closureCall one32 3 1 3 (zero32 ∷ []) (two32 ∷ one32 ∷ minusOne ∷ []) 3 ≡ accepted (1 ∷ 2 ∷ 0 ∷ [])
-  pub P9 : closureCall one32 0 1 3 (zero32 ∷ []) (two32 ∷ one32 ∷ minusOne ∷ []) 3 ≡ accepted []
+  -- the third centroid is at -1
+  pub P8 : closureCall zero32 3 1 3 (zero32 ∷ []) (two32 ∷ one32 ∷ fin true 1 (pos 0) ∷ []) 3 ≡ accepted (1 ∷ 2 ∷ [])
+  pub P8-wide : closureCall one32 3 1 3 (zero32 ∷ []) (two32 ∷ one32 ∷ fin true 1 (pos 0) ∷ []) 3 ≡ accepted (1 ∷ 2 ∷ 0 ∷ [])
+  pub P9 : closureCall one32 0 1 3 (zero32 ∷ []) (two32 ∷ one32 ∷ fin true 1 (pos 0) ∷ []) 3 ≡ accepted []
   pub P10 : kmeansCall 2 1 1 usual (0 ∷ []) (zero32 ∷ one32 ∷ []) (KMeans·lengthsOf 2 1 1)
       ≡ accepted (record { labels = 0 ∷ 0 ∷ []; centroids = (half ∷ []) ∷ []; objective = half; restart = 0 })
   -- 01 gives no readings and no weight here: whatever they are

@@ -81,7 +81,7 @@ finish-requires c κs =
     let l : length (w .last .1 .1 .1 .1 .1 .1 .0) ≡ length (u .last .0) = w .kept .1 .1 .1 .1 .1 .1 .0 in
     let o : length (w .last .1 .1 .1 .1 .1 .1 .0) ≡ z .args .rows = l ∙ (u .kept .0 ∙ f .order-is) in
     let e : length (w .last .1 .1 .1 .1 .1 .1 .1 .0) ≡ z .args .rows = w .kept .1 .1 .1 .1 .1 .1 .1 .0 ∙ (group-in (f .limits, f .room)) .end-cells in
-    (((group-in (f .limits, f .room)) .value-cells ∙ rw o, (f .mean-cells ∙ rw o, (e ∙ sym o, rw o (f .limits .1 .1)))), (record { answer = _; grouped = grouped-at _ l (w .ensures) }, z .pre .1 .1 .1))
+    (((group-in (f .limits, f .room)) .value-cells ∙ rw o, (f .mean-cells ∙ rw o, (e ∙ sym o, rw o (f .limits .1 .1)))), ((_, grouped-at _ l (w .ensures)), z .pre .1 .1 .1))
 
 -- src/call.rt:155:1
 same-length : tie.Need-same-length

@@ -24,7 +24,7 @@ fill-means-requires c κs =
     let z = c .before .before .before .before .before .before .before .before .before .before in
     let p = z .pre in
     let f = p .1 .0 in
-    let t = taken (f .answer) (length (z .args .order .now)) (c .before .before .before .before .found .given .0 .0) _ (z .args .order .now) (z .args .ends .now) (rw (c .before .before .before .before .found .given .1) at (f .grouped)) in
+    let t = taken (f .0) (length (z .args .order .now)) (c .before .before .before .before .found .given .0 .0) _ (z .args .order .now) (z .args .ends .now) (rw (c .before .before .before .before .found .given .1) at (f .1)) in
     (p .0, (cut t, (rw (p .0 .1 .1 .0) (t .fits), p .1 .1)))
 
 -- src/call.rt:146:33

@@ -1,5 +1,5 @@
-use Rattle.grouping.proofs.Averages.{add-length, rows-more, rows-end, row-room}
-use Rattle.grouping.specs.Groups.{addRows, meanOf, dividedBy}
+use Rattle.grouping.proofs.Averages.{addRows, dividedBy, add-length, rows-more, rows-end, row-room}
+use Rattle.grouping.specs.Groups.{meanOf}
 use Rattle.sums.proofs.Rows.{part-length, part-row}
 use Rattle.sums.specs.Sums.{zeroRow, zero32, addRow}
 use Rattle.sums.specs.Rows.{Row, rowsFrom, rowsAt}

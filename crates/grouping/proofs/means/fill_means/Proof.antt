@@ -102,7 +102,7 @@ compute-centroid-requires c κs =
       (
         part-length (k .loop .g * s .args .dim) (s .args .dim) (k .loop .means) (r .1),
         (
-          below-take (length (s .args .order .now)) (w .result - k .loop .start) (drop (k .loop .start) (s .args .order .now)) (below-drop (length (s .args .order .now)) (k .loop .start) (s .args .order .now) (s .pre .1 .0 .below)),
+          below-take (length (s .args .order .now)) (w .result - k .loop .start) (drop (k .loop .start) (s .args .order .now)) (below-drop (length (s .args .order .now)) (k .loop .start) (s .args .order .now) (s .pre .1 .0 .0)),
           omega (arith, m, s .pre .0 .1 .1 .1),
         ),
       ),

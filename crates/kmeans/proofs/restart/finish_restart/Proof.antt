@@ -10,7 +10,7 @@ use Rattle.kmeans.proofs.restart.finish_restart.Statement.{statement}
 use Rattle.kmeans.proofs.restart.finish_restart.Tie as tie
 use Rattle.kmeans.proofs.restart.finish_restart.Reads as reads
 use Rattle.kmeans.proofs.restart.finish_restart.Lts as lts
-use Rattle.kmeans.proofs.objective.compute_objective.Reads as compute-objective-reads
+use Rattle.steps.proofs.objective.compute_objective.Reads as compute-objective-reads
 use Rattle.labels.proofs.nearest.assign_rows.Reads as assign-rows-reads
 
 -- src/restart.rt:80:5
@@ -25,7 +25,7 @@ compute-objective-requires c κs =
     let w = c .before .before .before .before .before .assign-rows in
     let e = w .kept .1 .1 .1 .1 .1 .0 in
     let b = label-below (rowsFrom (a .dim) (a .k) (a .centroids .now)) (rowsFrom (a .dim) (length (a .labels .now)) (a .values .now)) (rw rows-length (z .pre .1)) in
-    (z .pre .0 .value-cells ∙ ap (λ (n : ℕ). n * a .dim) (sym e), (z .pre .0 .centroid-cells, rw (w .ensures .0) (rw (rows-length (a .dim) (a .k) (a .centroids .now)) at b)))
+    (z .pre .0 .1 .0 ∙ ap (λ (n : ℕ). n * a .dim) (sym e), (z .pre .0 .1 .1 .0, rw (w .ensures .0) (rw (rows-length (a .dim) (a .k) (a .centroids .now)) at b)))
 
 -- src/restart.rt:68:1
 same-length : tie.Need-same-length

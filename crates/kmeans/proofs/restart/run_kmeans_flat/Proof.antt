@@ -9,7 +9,7 @@ use Rattle.sums.specs.Rows.{rowsFrom}
 use Rattle.sums.proofs.Rows.{rows-length}
 use Rattle.labels.specs.Inside.{normsOf}
 use Rattle.sums.proofs.Fronts.{Front, front, front-back}
-use Rattle.kmeans.proofs.Selects.{target-enough, target-within}
+use Rattle.steps.proofs.Selects.{target-enough, target-within}
 use Rattle.kmeans.proofs.Rooms.{workspace-in, spaces-out}
 use Rattle.kmeans.proofs.Restarts.{spaces-of, ran}
 use native.Mathlib.Omega.{arith}
@@ -19,16 +19,14 @@ use Rattle.kmeans.proofs.restart.run_kmeans_flat.Tie as tie
 use Rattle.kmeans.proofs.restart.run_kmeans_flat.Reads as reads
 use Rattle.kmeans.proofs.restart.run_kmeans_flat.Lts as lts
 use Rattle.kmeans.proofs.restart.run_restarts.Reads as run-restarts-reads
-use Rattle.kmeans.proofs.training.gather_rows.Reads as gather-rows-reads
-use Rattle.kmeans.proofs.training.select_training_indices.Reads as select-training-indices-reads
-use Rattle.kmeans.proofs.training.target.Reads as target-reads
+use Rattle.steps.proofs.training.gather_rows.Reads as gather-rows-reads
+use Rattle.steps.proofs.training.select_training_indices.Reads as select-training-indices-reads
+use Rattle.steps.proofs.training.target.Reads as target-reads
 use Rattle.labels.proofs.nearest.compute_norms.Reads as compute-norms-reads
 
--- src/restart.rt:309:41
 cast-target : tie.Need-cast-target
 cast-target c = search needs
 
--- src/restart.rt:309:9
 target-requires : tie.Need-target-requires
 target-requires c κs = search needs
 
@@ -65,9 +63,6 @@ places-fit c = rw (c .select-training-indices .kept .1 .1 .0, (workspace-in (c .
 places-lent : (c : tie.After-select-training-indices) → length (take (c .before .before .target .result) (c .select-training-indices .last .1 .1 .0)) ≡ c .before .before .target .result
 places-lent c = length-take-le (c .before .before .target .result) (c .select-training-indices .last .1 .1 .0) (places-fit c)
 
-counts-lent : (z : tie.Start) → length {A = ℕ} (take (z .args .k) (replicate 64 0)) ≡ z .args .k
-counts-lent z = length-take-le (z .args .k) (replicate 64 0) ((workspace-in (z .pre .0)) .few)
-
 width-fits : (z : tie.Start) → z .args .k * z .args .dim ≤ 4096
 width-fits z = mul-le-mul ((workspace-in (z .pre .0)) .few) ((workspace-in (z .pre .0)) .small-dim)
 
@@ -81,33 +76,26 @@ training-holds c = front refl (c .gather-rows .kept .1 .1 .1 .1 .0 ∙ training-
 own-holds : (c : tie.After-compute-norms2) → Front (c .before .before .before .before .before .before .before .before .before .before .before .before .before .before .before .before .target .result) (c .compute-norms2 .last .1 .1 .0 ++ drop (c .before .before .before .before .before .before .before .before .before .before .before .before .before .before .before .before .target .result) (c .before .before .before .before .before .before .before .before .before .before .before .before .before .before .before .before .before .before .before .before .before .before .before .before .before .before .before .before .args .training-own .now)) (c .compute-norms2 .last .1 .1 .0)
 own-holds c = front refl (c .compute-norms2 .kept .1 .1 .0 ∙ own-lent (c .before .before .before .before .before .before .before .before .before .before .before .before .before .before .before .before)) _
 
--- src/restart.rt:310:9
 select-training-indices-requires : tie.Need-select-training-indices-requires
 select-training-indices-requires c κs =
     let z = c .before .before .before .before .before .before .before .before .before .before .before .before .before in
     (z .pre .1, (rw ((workspace-in (z .pre .0)) .place-cells) (within (c .before)), omega (arith, (workspace-in (z .pre .0)) .place-cells, (workspace-in (z .pre .0)) .few-rows)))
 
--- src/restart.rt:311:17
 mul-cells : tie.Need-mul-cells
 mul-cells c = omega (arith, cells-few (c .before .before .before .before))
 
--- src/restart.rt:312:46
 slice-reshare-prefix-gather-rows : tie.Need-slice-reshare-prefix-gather-rows
 slice-reshare-prefix-gather-rows c = places-fit (c .before .before)
 
--- src/restart.rt:312:46
 slice-aggregate-gather-rows : tie.Need-slice-aggregate-gather-rows
 slice-aggregate-gather-rows c = sym (places-lent (c .before .before .before))
 
--- src/restart.rt:312:62
 slice-relend-prefix-gather-rows : tie.Need-slice-relend-prefix-gather-rows
 slice-relend-prefix-gather-rows c = cells-fit (c .before .before .before .before .before)
 
--- src/restart.rt:312:62
 slice-aggregate-gather-rows-2 : tie.Need-slice-aggregate-gather-rows-2
 slice-aggregate-gather-rows-2 c = sym (training-lent (c .before .before .before .before .before .before))
 
--- src/restart.rt:312:5
 gather-rows-requires : tie.Need-gather-rows-requires
 gather-rows-requires c κs =
     let z = c .before .before .before .before .before .before .before .before .before .before .before .before .before .before .before .before .before .before in
@@ -120,171 +108,122 @@ gather-rows-requires c κs =
       ),
     )
 
--- src/restart.rt:313:5
 compute-norms-requires : tie.Need-compute-norms-requires
 compute-norms-requires c κs =
     let z = c .before .before .before .before .before .before .before .before .before .before .before .before .before .before .before .before .before .before .before .before .before .before in
     (workspace-in (z .pre .0)) .value-cells ∙ ap (λ (n : ℕ). n * z .args .dim) (sym ((workspace-in (z .pre .0)) .own-cells))
 
--- src/restart.rt:314:28
 slice-reshare-prefix-compute-norms : tie.Need-slice-reshare-prefix-compute-norms
 slice-reshare-prefix-compute-norms c = training-holds (c .before .before .before .before .before .before) .fits
 
--- src/restart.rt:314:28
 slice-aggregate-compute-norms : tie.Need-slice-aggregate-compute-norms
 slice-aggregate-compute-norms c = sym (training-holds (c .before .before .before .before .before .before .before) .long)
 
--- src/restart.rt:314:53
 slice-relend-prefix-compute-norms : tie.Need-slice-relend-prefix-compute-norms
 slice-relend-prefix-compute-norms c = own-fits (c .before .before .before .before .before .before .before .before .before .before .before .before .before .before)
 
--- src/restart.rt:314:53
 slice-aggregate-compute-norms-2 : tie.Need-slice-aggregate-compute-norms-2
 slice-aggregate-compute-norms-2 c = sym (own-lent (c .before .before .before .before .before .before .before .before .before .before .before .before .before .before .before))
 
--- src/restart.rt:314:5
 compute-norms-requires-2 : tie.Need-compute-norms-requires-2
 compute-norms-requires-2 c κs = training-holds (c .before .before .before .before .before .before .before .before) .long ∙ ap (λ (n : ℕ). n * c .before .before .before .before .before .before .before .before .before .before .before .before .before .before .before .before .before .before .before .before .before .before .before .before .before .before .before .args .dim) (sym (own-lent (c .before .before .before .before .before .before .before .before .before .before .before .before .before .before .before)))
 
--- src/restart.rt:315:17
 mul-width : tie.Need-mul-width
 mul-width c = omega (arith, width-fits (c .before .before .before .before .before .before .before .before .before .before .before .before .before .before .before .before .before .before .before .before .before .before .before .before .before .before .before .before .before .before))
 
--- src/restart.rt:325:9
 slice-reshare-prefix-run-restarts : tie.Need-slice-reshare-prefix-run-restarts
 slice-reshare-prefix-run-restarts c = training-holds (c .before .before .before .before .before .before .before .before .before .before .before .before) .fits
 
--- src/restart.rt:325:9
 slice-aggregate-run-restarts : tie.Need-slice-aggregate-run-restarts
 slice-aggregate-run-restarts c = sym (training-holds (c .before .before .before .before .before .before .before .before .before .before .before .before .before) .long)
 
--- src/restart.rt:326:9
 slice-reshare-prefix-run-restarts-2 : tie.Need-slice-reshare-prefix-run-restarts-2
 slice-reshare-prefix-run-restarts-2 c = own-holds (c .before .before .before .before) .fits
 
--- src/restart.rt:326:9
 slice-aggregate-run-restarts-2 : tie.Need-slice-aggregate-run-restarts-2
 slice-aggregate-run-restarts-2 c = sym (own-holds (c .before .before .before .before .before) .long)
 
--- src/restart.rt:333:9
 slice-relend-prefix-run-restarts : tie.Need-slice-relend-prefix-run-restarts
 slice-relend-prefix-run-restarts c = places-fit (c .before .before .before .before .before .before .before .before .before .before .before .before .before .before .before .before .before .before .before .before .before .before .before)
 
--- src/restart.rt:333:9
 slice-aggregate-run-restarts-3 : tie.Need-slice-aggregate-run-restarts-3
 slice-aggregate-run-restarts-3 c = sym (places-lent (c .before .before .before .before .before .before .before .before .before .before .before .before .before .before .before .before .before .before .before .before .before .before .before .before))
 
--- src/restart.rt:334:9
-array-borrow-prefix-counts : tie.Need-array-borrow-prefix-counts
-array-borrow-prefix-counts c = (workspace-in (c .before .before .before .before .before .before .before .before .before .before .before .before .before .before .before .before .before .before .before .before .before .before .before .before .before .before .before .before .before .before .before .before .before .before .before .before .before .before .pre .0)) .few
-
--- src/restart.rt:334:9
-slice-aggregate-run-restarts-4 : tie.Need-slice-aggregate-run-restarts-4
-slice-aggregate-run-restarts-4 c = sym (counts-lent (c .before .before .before .before .before .before .before .before .before .before .before .before .before .before .before .before .before .before .before .before .before .before .before .before .before .before .before .before .before .before .before .before .before .before .before .before .before .before .before))
-
--- src/restart.rt:335:9
-array-borrow-prefix-totals : tie.Need-array-borrow-prefix-totals
-array-borrow-prefix-totals c = width-fits (c .before .before .before .before .before .before .before .before .before .before .before .before .before .before .before .before .before .before .before .before .before .before .before .before .before .before .before .before .before .before .before .before .before .before .before .before .before .before .before)
-
--- src/restart.rt:335:9
-slice-aggregate-run-restarts-5 : tie.Need-slice-aggregate-run-restarts-5
-slice-aggregate-run-restarts-5 c = sym (width-lent (c .before .before .before .before .before .before .before .before .before .before .before .before .before .before .before .before .before .before .before .before .before .before .before .before .before .before .before .before .before .before .before .before .before .before .before .before .before .before .before .before))
-
--- src/restart.rt:336:9
-array-borrow-prefix-at : tie.Need-array-borrow-prefix-at
-array-borrow-prefix-at c = (workspace-in (c .before .before .before .before .before .before .before .before .before .before .before .before .before .before .before .before .before .before .before .before .before .before .before .before .before .before .before .before .before .before .before .before .before .before .before .before .before .before .before .before .pre .0)) .few
-
--- src/restart.rt:336:9
-slice-aggregate-run-restarts-6 : tie.Need-slice-aggregate-run-restarts-6
-slice-aggregate-run-restarts-6 c = sym (counts-lent (c .before .before .before .before .before .before .before .before .before .before .before .before .before .before .before .before .before .before .before .before .before .before .before .before .before .before .before .before .before .before .before .before .before .before .before .before .before .before .before .before .before))
-
--- src/restart.rt:337:9
 array-borrow-prefix-trial : tie.Need-array-borrow-prefix-trial
-array-borrow-prefix-trial c = width-fits (c .before .before .before .before .before .before .before .before .before .before .before .before .before .before .before .before .before .before .before .before .before .before .before .before .before .before .before .before .before .before .before .before .before .before .before .before .before .before .before .before .before)
+array-borrow-prefix-trial c = width-fits (c .before .before .before .before .before .before .before .before .before .before .before .before .before .before .before .before .before .before .before .before .before .before .before .before .before .before .before .before .before .before .before .before .before .before .before .before .before .before)
 
--- src/restart.rt:337:9
-slice-aggregate-run-restarts-7 : tie.Need-slice-aggregate-run-restarts-7
-slice-aggregate-run-restarts-7 c = sym (width-lent (c .before .before .before .before .before .before .before .before .before .before .before .before .before .before .before .before .before .before .before .before .before .before .before .before .before .before .before .before .before .before .before .before .before .before .before .before .before .before .before .before .before .before))
+slice-aggregate-run-restarts-4 : tie.Need-slice-aggregate-run-restarts-4
+slice-aggregate-run-restarts-4 c = sym (width-lent (c .before .before .before .before .before .before .before .before .before .before .before .before .before .before .before .before .before .before .before .before .before .before .before .before .before .before .before .before .before .before .before .before .before .before .before .before .before .before .before))
 
--- src/restart.rt:320:5
 run-restarts-requires : tie.Need-run-restarts-requires
 run-restarts-requires c κs =
-    let z = c .before .before .before .before .before .before .before .before .before .before .before .before .before .before .before .before .before .before .before .before .before .before .before .before .before .before .before .before .before .before .before .before .before .before .before .before .before .before .before .before .before .before in
+    let z = c .before .before .before .before .before .before .before .before .before .before .before .before .before .before .before .before .before .before .before .before .before .before .before .before .before .before .before .before .before .before .before .before .before .before .before .before .before .before .before in
     let a = z .args in
-    let t = c .before .before .before .before .before .before .before .before .before .before .before .before .before .before .before .before .before .before .before .before .before .before .before .before .before .before .before .before .before .before in
-    let own = c .before .before .before .before .before .before .before .before .before .before .before .before .before .before .before .before .before .before .before .compute-norms in
-    let norms = c .before .before .before .before .before .before .before .before .before .before .before .before .before .before .compute-norms2 in
-    let front-own = own-holds (c .before .before .before .before .before .before .before .before .before .before .before .before .before .before) in
-    let front-training = training-holds (c .before .before .before .before .before .before .before .before .before .before .before .before .before .before .before .before .before .before .before .before .before .before .before) in
-    let wide = width-lent z ∙ ap (λ (n : ℕ). n * a .dim) (sym (counts-lent z)) in (
-      spaces-out (spaces-of (workspace-in (z .pre .0)) (t .target .result) _ _ _ _ _ (enough t) (within t) (counts-lent z) (front-own .long) (own .kept .1 .1 .0) (front-training .long) (places-lent (c .before .before .before .before .before .before .before .before .before .before .before .before .before .before .before .before .before .before .before .before .before .before .before .before .before .before .before .before))),
+    let w = workspace-in (z .pre .0) in
+    let t = c .before .before .before .before .before .before .before .before .before .before .before .before .before .before .before .before .before .before .before .before .before .before .before .before .before .before .before in
+    let own = c .before .before .before .before .before .before .before .before .before .before .before .before .before .before .before .before .compute-norms in
+    let norms = c .before .before .before .before .before .before .before .before .before .before .before .compute-norms2 in
+    let front-own = own-holds (c .before .before .before .before .before .before .before .before .before .before .before) in
+    let front-training = training-holds (c .before .before .before .before .before .before .before .before .before .before .before .before .before .before .before .before .before .before .before .before) in (
+      spaces-out (spaces-of w (t .target .result) _ _ _ _ (enough t) (within t) (front-own .long) (own .kept .1 .1 .0) (front-training .long) (places-lent (c .before .before .before .before .before .before .before .before .before .before .before .before .before .before .before .before .before .before .before .before .before .before .before .before .before))),
       (
-        ((workspace-in (z .pre .0)) .some-block, (wide, (refl, wide))),
+        (w .some-block, width-lent z),
         (
           (
-            own .ensures ∙ ap (λ (n : ℕ). normsOf (rowsFrom (a .dim) n (a .values .now))) ((workspace-in (z .pre .0)) .own-cells),
-            front-own .is ∙ (norms .ensures ∙ ap (λ (n : ℕ). normsOf (rowsFrom (a .dim) n (take (cellsOf t) (c .before .before .before .before .before .before .before .before .before .before .before .before .before .before .before .before .before .before .before .before .before .before .before .gather-rows .last .1 .1 .1 .1 .0 ++ drop (cellsOf t) (a .training .now))))) (own-lent t ∙ sym (front-own .long))),
+            own .ensures ∙ ap (λ (n : ℕ). normsOf (rowsFrom (a .dim) n (a .values .now))) (w .own-cells),
+            front-own .is ∙ (norms .ensures ∙ ap (λ (n : ℕ). normsOf (rowsFrom (a .dim) n (take (cellsOf t) (c .before .before .before .before .before .before .before .before .before .before .before .before .before .before .before .before .before .before .before .before .gather-rows .last .1 .1 .1 .1 .0 ++ drop (cellsOf t) (a .training .now))))) (own-lent t ∙ sym (front-own .long))),
           ),
-          c .before .before .before .before .before .before .before .before .before .before .before .before .before .before .before .before .before .before .before .before .before .before .before .before .before .before .before .before .select-training-indices .ensures .1 .inside,
+          c .before .before .before .before .before .before .before .before .before .before .before .before .before .before .before .before .before .before .before .before .before .before .before .before .before .select-training-indices .ensures .1 .inside,
         ),
       ),
     )
 
--- src/restart.rt:288:1
 same-length : tie.Need-same-length
 same-length c = search needs
 
--- src/restart.rt:288:1
 same-length-2 : tie.Need-same-length-2
 same-length-2 c = search needs
 
--- src/restart.rt:288:1
 same-length-3 : tie.Need-same-length-3
 same-length-3 c =
-    let t = c .before .before .before .before .before .before .before .before .before .before .before .before .before .before .before .before .before .before .before .before .before .before .before .before .before .before .before .before .before .before .before .before .before .before .before .before .before .before .before .before .before .before .before .before .before in
-    let g = c .before .before .before .before .before .before .before .before .before .before .before .before .before .before .before .before .before .before .before .before .before .before .before .before .before .before .before .before .before .before .before .before .before .before .before .before .before .before .gather-rows in
-    front-back (cellsOf t) (c .before .before .before .before .before .before .before .before .before .before .before .before .before .before .before .before .before .before .before .before .before .before .before .before .before .before .before .before .before .before .before .before .before .before .before .before .before .before .before .before .before .before .before .before .before .before .before .before .before .before .before .before .before .before .before .before .before .args .training .now) (g .last .1 .1 .1 .1 .0) (cells-fit t) (g .kept .1 .1 .1 .1 .0)
+    let t = c .before .before .before .before .before .before .before .before .before .before .before .before .before .before .before .before .before .before .before .before .before .before .before .before .before .before .before .before .before .before .before .before .before .before .before .before .before .before .before in
+    let g = c .before .before .before .before .before .before .before .before .before .before .before .before .before .before .before .before .before .before .before .before .before .before .before .before .before .before .before .before .before .before .before .before .gather-rows in
+    front-back (cellsOf t) (c .before .before .before .before .before .before .before .before .before .before .before .before .before .before .before .before .before .before .before .before .before .before .before .before .before .before .before .before .before .before .before .before .before .before .before .before .before .before .before .before .before .before .before .before .before .before .before .before .before .before .before .args .training .now) (g .last .1 .1 .1 .1 .0) (cells-fit t) (g .kept .1 .1 .1 .1 .0)
 
--- src/restart.rt:288:1
 same-length-4 : tie.Need-same-length-4
-same-length-4 c = c .before .before .before .before .before .before .before .before .before .before .before .before .before .before .before .before .before .before .before .before .before .before .before .before .before .before .before .before .before .before .before .before .before .before .compute-norms .kept .1 .1 .0
+same-length-4 c = c .before .before .before .before .before .before .before .before .before .before .before .before .before .before .before .before .before .before .before .before .before .before .before .before .before .before .before .before .compute-norms .kept .1 .1 .0
 
--- src/restart.rt:288:1
 same-length-5 : tie.Need-same-length-5
 same-length-5 c =
-    let t = c .before .before .before .before .before .before .before .before .before .before .before .before .before .before .before .before .before .before .before .before .before .before .before .before .before .before .before .before .before .before .before .before .before .before .before .before .before .before .before .before .before .before .before .before .before in
-    let n = c .before .before .before .before .before .before .before .before .before .before .before .before .before .before .before .before .before .before .before .before .before .before .before .before .before .before .before .before .before .compute-norms2 in
-    front-back (t .target .result) (c .before .before .before .before .before .before .before .before .before .before .before .before .before .before .before .before .before .before .before .before .before .before .before .before .before .before .before .before .before .before .before .before .before .before .before .before .before .before .before .before .before .before .before .before .before .before .before .before .before .before .before .before .before .before .before .before .before .args .training-own .now) (n .last .1 .1 .0) (own-fits t) (n .kept .1 .1 .0)
+    let t = c .before .before .before .before .before .before .before .before .before .before .before .before .before .before .before .before .before .before .before .before .before .before .before .before .before .before .before .before .before .before .before .before .before .before .before .before .before .before .before in
+    let n = c .before .before .before .before .before .before .before .before .before .before .before .before .before .before .before .before .before .before .before .before .before .before .before .compute-norms2 in
+    front-back (t .target .result) (c .before .before .before .before .before .before .before .before .before .before .before .before .before .before .before .before .before .before .before .before .before .before .before .before .before .before .before .before .before .before .before .before .before .before .before .before .before .before .before .before .before .before .before .before .before .before .before .before .before .before .before .args .training-own .now) (n .last .1 .1 .0) (own-fits t) (n .kept .1 .1 .0)
 
--- src/restart.rt:288:1
 same-length-6 : tie.Need-same-length-6
 same-length-6 c = search needs
 
--- src/restart.rt:288:1
 same-length-7 : tie.Need-same-length-7
 same-length-7 c = search needs
 
--- src/restart.rt:288:1
 same-length-8 : tie.Need-same-length-8
 same-length-8 c =
-    let p = c .before .before .before .before .before .before .before .before .before .before .before .before .before .before .before .before .before .before .before .before .before .before .before .before .before .before .before .before .before .before .before .before .before .before .before .before .before .before .before .before .before .before .before in
-    let r = c .before .before .before .before .before .before .before .before .before .before .before .before .before .before .run-restarts in
-    front-back (c .before .before .before .before .before .before .before .before .before .before .before .before .before .before .before .before .before .before .before .before .before .before .before .before .before .before .before .before .before .before .before .before .before .before .before .before .before .before .before .before .before .before .before .before .before .target .result) (p .select-training-indices .last .1 .1 .0) (r .last .1 .1 .1 .1 .1 .1 .1 .1 .1 .1 .1 .1 .0) (places-fit p) (r .kept .1 .1 .1 .1 .1 .1 .1 .1 .1 .1 .1 .1 .0) ∙ p .select-training-indices .kept .1 .1 .0
+    let p = c .before .before .before .before .before .before .before .before .before .before .before .before .before .before .before .before .before .before .before .before .before .before .before .before .before .before .before .before .before .before .before .before .before .before .before .before .before in
+    let r = c .before .before .before .before .before .before .before .before .before .before .before .run-restarts in
+    front-back (c .before .before .before .before .before .before .before .before .before .before .before .before .before .before .before .before .before .before .before .before .before .before .before .before .before .before .before .before .before .before .before .before .before .before .before .before .before .before .before .target .result) (p .select-training-indices .last .1 .1 .0) (r .last .1 .1 .1 .1 .1 .1 .1 .1 .1 .1 .1 .1 .1 .0) (places-fit p) (r .kept .1 .1 .1 .1 .1 .1 .1 .1 .1 .1 .1 .1 .1 .0) ∙ p .select-training-indices .kept .1 .1 .0
 
--- src/restart.rt:288:1
 returns : tie.Need-returns
 returns c =
-    let z = c .before .before .before .before .before .before .before .before .before .before .before .before .before .before .before .before .before .before .before .before .before .before .before .before .before .before .before .before .before .before .before .before .before .before .before .before .before .before .before .before .before .before .before .before .before .before .before .before .before .before .before .before .before .before .before .before .before in
+    let z = c .before .before .before .before .before .before .before .before .before .before .before .before .before .before .before .before .before .before .before .before .before .before .before .before .before .before .before .before .before .before .before .before .before .before .before .before .before .before .before .before .before .before .before .before .before .before .before .before .before .before .before in
     let a = z .args in
-    let t = c .before .before .before .before .before .before .before .before .before .before .before .before .before .before .before .before .before .before .before .before .before .before .before .before .before .before .before .before .before .before .before .before .before .before .before .before .before .before .before .before .before .before .before .before .before in
-    let p = c .before .before .before .before .before .before .before .before .before .before .before .before .before .before .before .before .before .before .before .before .before .before .before .before .before .before .before .before .before .before .before .before .before .before .before .before .before .before .before .before .before .before .before in
-    let g = c .before .before .before .before .before .before .before .before .before .before .before .before .before .before .before .before .before .before .before .before .before .before .before .before .before .before .before .before .before .before .before .before .before .before .before .before .before .before .gather-rows in
-    let front-own = own-holds (c .before .before .before .before .before .before .before .before .before .before .before .before .before .before .before .before .before .before .before .before .before .before .before .before .before .before .before .before .before) in
-    let front-training = training-holds (c .before .before .before .before .before .before .before .before .before .before .before .before .before .before .before .before .before .before .before .before .before .before .before .before .before .before .before .before .before .before .before .before .before .before .before .before .before .before) in
+    let t = c .before .before .before .before .before .before .before .before .before .before .before .before .before .before .before .before .before .before .before .before .before .before .before .before .before .before .before .before .before .before .before .before .before .before .before .before .before .before .before in
+    let p = c .before .before .before .before .before .before .before .before .before .before .before .before .before .before .before .before .before .before .before .before .before .before .before .before .before .before .before .before .before .before .before .before .before .before .before .before .before in
+    let g = c .before .before .before .before .before .before .before .before .before .before .before .before .before .before .before .before .before .before .before .before .before .before .before .before .before .before .before .before .before .before .before .before .gather-rows in
+    let front-own = own-holds (c .before .before .before .before .before .before .before .before .before .before .before .before .before .before .before .before .before .before .before .before .before .before .before) in
+    let front-training = training-holds (c .before .before .before .before .before .before .before .before .before .before .before .before .before .before .before .before .before .before .before .before .before .before .before .before .before .before .before .before .before .before .before .before) in
     let gathered = ap (λ (n : ℕ). rowsFrom (a .dim) n (take (cellsOf t) (g .last .1 .1 .1 .1 .0 ++ drop (cellsOf t) (a .training .now)))) (front-own .long ∙ sym (places-lent p))
     ∙ (ap (λ (l : List Float). rowsFrom (a .dim) (length (take (t .target .result) (p .select-training-indices .last .1 .1 .0))) l) (front-training .is) ∙ g .ensures) in
     ran _ (a .config) (a .k) (a .dim) (t .target .result) (length (a .labels .now)) _ _ (a .cursor) _ _ (p .select-training-indices .last .1 .1 .0) _ _ (rows-length (a .dim) (length (a .labels .now)) (a .values .now)) (t .target .ensures)
-    (rw ((workspace-in (z .pre .0)) .place-cells) at (p .select-training-indices .ensures)) gathered (rw (counts-lent z) at (c .before .before .before .before .before .before .before .before .before .before .before .before .before .before .run-restarts .ensures))
+    (rw ((workspace-in (z .pre .0)) .place-cells) at (p .select-training-indices .ensures)) gathered (c .before .before .before .before .before .before .before .before .before .before .before .run-restarts .ensures)
 
 pub run-kmeans-flat-spec : {M : Type 1} → statement M
 run-kmeans-flat-spec =
@@ -312,14 +251,8 @@ run-kmeans-flat-spec =
     slice-aggregate-run-restarts-2
     slice-relend-prefix-run-restarts
     slice-aggregate-run-restarts-3
-    array-borrow-prefix-counts
-    slice-aggregate-run-restarts-4
-    array-borrow-prefix-totals
-    slice-aggregate-run-restarts-5
-    array-borrow-prefix-at
-    slice-aggregate-run-restarts-6
     array-borrow-prefix-trial
-    slice-aggregate-run-restarts-7
+    slice-aggregate-run-restarts-4
     run-restarts-requires
     same-length
     same-length-2

@@ -4,7 +4,7 @@ use lib.ListN.{length, take}
 use lib.Seq.{length-take-le}
 use Rattle.sums.proofs.Rows.{rows-length}
 use Rattle.sums.proofs.Belows.{below-take}
-use Rattle.kmeans.proofs.Rooms.{room-in}
+use Rattle.steps.proofs.Rooms.{room-in}
 use Rattle.kmeans.proofs.Restarts.{restarted}
 use native.Mathlib.Omega.{arith}
 use borrow.Author.Needs.{needs}
@@ -12,85 +12,59 @@ use Rattle.kmeans.proofs.restart.run_restart.Statement.{statement}
 use Rattle.kmeans.proofs.restart.run_restart.Tie as tie
 use Rattle.kmeans.proofs.restart.run_restart.Reads as reads
 use Rattle.kmeans.proofs.restart.run_restart.Lts as lts
-use Rattle.kmeans.proofs.lloyd.run_lloyd_iterations.Reads as run-lloyd-iterations-reads
-use Rattle.kmeans.proofs.training.gather_rows.Reads as gather-rows-reads
+use Rattle.steps.proofs.lloyd.run_lloyd_iterations.Reads as run-lloyd-iterations-reads
+use Rattle.steps.proofs.training.gather_rows.Reads as gather-rows-reads
 use Rattle.sums.proofs.draws.pick.Reads as pick-reads
 
--- src/restart.rt:48:9
 pick-requires : tie.Need-pick-requires
 pick-requires c κs = search needs
 
--- src/restart.rt:49:48
 slice-reshare-prefix-gather-rows : tie.Need-slice-reshare-prefix-gather-rows
 slice-reshare-prefix-gather-rows c = search needs
 
 -- as many are picked as there are clusters
-picked : (c : tie.After-pick) → length (take (length (c .before .before .before .before .before .before .before .before .before .before .before .before .args .counts .now)) (c .pick .last .1 .1 .0)) ≡ length (c .before .before .before .before .before .before .before .before .before .before .before .before .args .counts .now)
-picked c = length-take-le _ (c .pick .last .1 .1 .0) (omega (arith, c .before .before .before .before .before .before .before .before .before .before .before .before .pre .1 .1, c .pick .kept .1 .1 .0))
+picked : (c : tie.After-pick) → length (take (c .before .before .before .before .before .before .before .before .before .args .k) (c .pick .last .1 .1 .0)) ≡ c .before .before .before .before .before .before .before .before .before .args .k
+picked c = length-take-le _ (c .pick .last .1 .1 .0) (omega (arith, c .before .before .before .before .before .before .before .before .before .pre .1 .1, c .pick .kept .1 .1 .0))
 
--- src/restart.rt:49:48
 slice-aggregate-gather-rows : tie.Need-slice-aggregate-gather-rows
 slice-aggregate-gather-rows c = sym (picked (c .before .before .before))
 
--- src/restart.rt:49:5
 gather-rows-requires : tie.Need-gather-rows-requires
 gather-rows-requires c κs =
-    let z = c .before .before .before .before .before .before .before .before .before .before .before .before .before .before .before .before in
+    let z = c .before .before .before .before .before .before .before .before .before .before .before .before .before in
     let a = z .args in
+    let r = room-in (z .pre .0) in
     let p = c .before .before .before .before .pick in (
-      (room-in (z .pre .0)) .training-cells ∙ ap (λ (n : ℕ). n * a .dim) (sym (z .pre .1 .1 .1 .0)),
+      r .training-cells ∙ ap (λ (n : ℕ). n * a .dim) (sym (z .pre .1 .1 .1 .0)),
       (
-        (room-in (z .pre .0)) .centroid-cells ∙ ap (λ (n : ℕ). n * a .dim) (sym (picked (c .before .before .before .before))),
-        (
-          below-take (length (a .places .now)) (length (a .counts .now)) (p .last .1 .1 .0) (p .ensures .0),
-          omega (arith, picked (c .before .before .before .before), (room-in (z .pre .0)) .few),
-        ),
+        r .centroid-cells ∙ ap (λ (n : ℕ). n * a .dim) (sym (picked (c .before .before .before .before))),
+        (below-take (length (a .places .now)) (a .k) (p .last .1 .1 .0) (p .ensures .0), omega (arith, picked (c .before .before .before .before), r .few)),
       ),
     )
 
--- src/restart.rt:50:5
 run-lloyd-iterations-requires : tie.Need-run-lloyd-iterations-requires
-run-lloyd-iterations-requires c κs =
-    let z = c .before .before .before .before .before .before .before .before .before .before .before .before .before .before .before .before .before .before .before .before .before .before .before .before .before in
-    rw (c .before .before .before .before .before .before .before .before .gather-rows .kept .1 .1 .1 .1 .0) (z .pre .0, (z .pre .1 .0, c .before .before .before .before .before .before .before .before .before .before .before .before .before .pick .ensures .1 .inside))
+run-lloyd-iterations-requires c κs = let z = c .before .before .before .before .before .before .before .before .before .before .before .before .before .before .before .before .before .before .before in rw (c .before .before .before .before .before .gather-rows .kept .1 .1 .1 .1 .0) (z .pre .0, (z .pre .1 .0, c .before .before .before .before .before .before .before .before .before .before .pick .ensures .1 .inside))
 
--- src/restart.rt:25:1
 same-length : tie.Need-same-length
 same-length c = search needs
 
--- src/restart.rt:25:1
 same-length-2 : tie.Need-same-length-2
 same-length-2 c = search needs
 
--- src/restart.rt:25:1
 same-length-3 : tie.Need-same-length-3
 same-length-3 c = search needs
 
--- src/restart.rt:25:1
 same-length-4 : tie.Need-same-length-4
 same-length-4 c = search needs
 
--- src/restart.rt:25:1
-same-length-5 : tie.Need-same-length-5
-same-length-5 c = search needs
-
--- src/restart.rt:25:1
-same-length-6 : tie.Need-same-length-6
-same-length-6 c = search needs
-
--- src/restart.rt:25:1
-same-length-7 : tie.Need-same-length-7
-same-length-7 c = search needs
-
--- src/restart.rt:25:1
 returns : tie.Need-returns
 returns c =
-    let z = c .before .before .before .before .before .before .before .before .before .before .before .before .before .before .before .before .before .before .before .before .before .before .before .before .before .before .before .before .before .before .before .before .before .before .before .before .before .before in
+    let z = c .before .before .before .before .before .before .before .before .before .before .before .before .before .before .before .before .before .before .before .before .before .before .before .before .before .before in
     let a = z .args in
-    let p = c .before .before .before .before .before .before .before .before .before .before .before .before .before .before .before .before .before .before .before .before .before .before .before .before .before .before .pick in
-    let g = c .before .before .before .before .before .before .before .before .before .before .before .before .before .before .before .before .before .before .before .before .before .gather-rows in
+    let p = c .before .before .before .before .before .before .before .before .before .before .before .before .before .before .before .before .before .pick in
+    let g = c .before .before .before .before .before .before .before .before .before .before .before .before .gather-rows in
     restarted _ _ _ _ _ (length (a .places .now)) _ _ _ _ _ _ _ (z .pre .1 .1 .1 .0 ∙ sym (rows-length (a .dim) (length (a .labels .now)) (a .training .now))) (p .ensures)
-    (rw (picked (c .before .before .before .before .before .before .before .before .before .before .before .before .before .before .before .before .before .before .before .before .before .before .before .before .before .before), z .pre .1 .1 .1 .0) at (g .ensures)) (c .before .before .before .before .before .before .before .before .before .before .before .before .run-lloyd-iterations .ensures)
+    (rw (picked (c .before .before .before .before .before .before .before .before .before .before .before .before .before .before .before .before .before), z .pre .1 .1 .1 .0) at (g .ensures)) (c .before .before .before .before .before .before .run-lloyd-iterations .ensures)
 
 pub run-restart-spec : {M : Type 1} → statement M
 run-restart-spec =
@@ -105,7 +79,4 @@ run-restart-spec =
     same-length-2
     same-length-3
     same-length-4
-    same-length-5
-    same-length-6
-    same-length-7
     returns)

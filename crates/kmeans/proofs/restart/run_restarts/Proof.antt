@@ -4,7 +4,7 @@ use mathlib.Core.Path.{_≡_, refl, sym, ap, _∙_}
 use lib.ListN.{length}
 use Rattle.sums.specs.Rows.{rowsFrom}
 use Rattle.kmeans.proofs.Rooms.{spaces-in, spaces-out}
-use Rattle.kmeans.proofs.Restarts.{Sizes, Trying, trying-start, trying-step, trying-end, still-spaces, still-work}
+use Rattle.kmeans.proofs.Restarts.{Sizes, Trying, trying-start, trying-step, trying-end, still-spaces}
 use borrow.Author.Needs.{needs}
 use native.Mathlib.Omega.{arith}
 use Rattle.kmeans.proofs.restart.run_restarts.Statement.{statement}
@@ -15,131 +15,95 @@ use Rattle.kmeans.proofs.restart.first_restart.Reads as first-restart-r
 use Rattle.kmeans.proofs.restart.try_restart.Reads as try-restart-reads
 
 abbrev Inv-loop : tie.InvT-loop
-Inv-loop config dim values own training training-own draws labels₀ centroids₀ distances₀ trial-labels₀ places₀ counts₀ totals₀ at₀ trial₀ iterations block best₀ number₀ labels centroids distances trial-labels places counts totals at trial best number =
-    Sizes labels₀ centroids₀ distances₀ trial-labels₀ places₀ counts₀ totals₀ at₀ trial₀ labels centroids distances trial-labels places counts totals at trial
-    × Trying draws config (length counts₀) dim (rowsFrom dim (length training-own) training) (rowsFrom dim (length labels₀) values) labels₀ (rowsFrom dim (length counts₀) centroids₀) best₀ labels (rowsFrom dim (length counts₀) centroids) best number
+Inv-loop config dim k values own training training-own draws labels₀ centroids₀ distances₀ trial-labels₀ places₀ trial₀ iterations block best₀ number₀ labels centroids distances trial-labels places trial best number =
+    Sizes labels₀ centroids₀ distances₀ trial-labels₀ places₀ trial₀ labels centroids distances trial-labels places trial
+    × Trying draws config k dim (rowsFrom dim (length training-own) training) (rowsFrom dim (length labels₀) values) labels₀ (rowsFrom dim k centroids₀) best₀ labels (rowsFrom dim k centroids) best number
 
 abbrev μ-loop : tie.MeasureT-loop
-μ-loop config dim values own training training-own draws labels₀ centroids₀ distances₀ trial-labels₀ places₀ counts₀ totals₀ at₀ trial₀ iterations block best₀ number₀ labels centroids distances trial-labels places counts totals at trial best number = config .nredo - number
+μ-loop config dim k values own training training-own draws labels₀ centroids₀ distances₀ trial-labels₀ places₀ trial₀ iterations block best₀ number₀ labels centroids distances trial-labels places trial best number = config .nredo - number
 
--- src/restart.rt:237:22
 cast-iterations : tie.Need-cast-iterations Inv-loop μ-loop
 cast-iterations c = search needs
 
--- src/restart.rt:238:17
 cast-block : tie.Need-cast-block Inv-loop μ-loop
 cast-block c = search needs
 
--- src/restart.rt:239:9
 first-restart-requires : tie.Need-first-restart-requires Inv-loop μ-loop
-first-restart-requires c κs =
-    let z = c .before .before .before .before .before .before .before .before .before .before .before .before .before .before .before .before .before .before .before .before .before .before .before .before in
-    let q = z .pre .1 .0 in
-    (z .pre .0, ((q .0, (q .1 .0, q .1 .1 .0)), (z .pre .1 .1 .0, z .pre .1 .1 .1)))
+first-restart-requires c κs = let z = c .before .before .before .before .before .before .before .before .before .before .before .before .before .before .before .before .before .before in (z .pre .0, (z .pre .1 .0 .0, z .pre .1 .1))
 
--- src/restart.rt:259:5
 loop-holds : tie.Need-loop-holds Inv-loop μ-loop
-loop-holds c = (record { l-labels = refl; l-centroids = refl; l-distances = refl; l-trial-labels = refl; l-places = refl; l-counts = refl; l-totals = refl; l-at = refl; l-trial = refl }, trying-start _ _ _ _ _ _ _ _ _ (c .before .before .before .before .before .before .before .before .before .before .before .before .before .before .before .before .first-restart .ensures .inside))
+loop-holds c = (record { l-labels = refl; l-centroids = refl; l-distances = refl; l-trial-labels = refl; l-places = refl; l-trial = refl }, trying-start _ _ _ _ _ _ _ _ _ (c .before .before .before .before .before .before .before .before .before .before .first-restart .ensures .inside))
 
 -- every slice is as long as at the function's entry
-since : (c : tie.At-loop Inv-loop μ-loop) → let a = c .before .before .before .before .before .before .before .before .before .before .before .before .before .before .before .before .before .before .before .before .before .before .before .before .before .before .before .before .before .before .before .before .before .before .before .before .before .before .before .before .before .before .args in let o = c .loop in
-    Sizes (a .labels .now) (a .centroids .now) (a .distances .now) (a .trial-labels .now) (a .places .now) (a .counts .now) (a .totals .now) (a .at .now) (a .trial .now) (o .labels) (o .centroids) (o .distances) (o .trial-labels) (o .places) (o .counts) (o .totals) (o .at) (o .trial)
+since : (c : tie.At-loop Inv-loop μ-loop) → let a = c .before .before .before .before .before .before .before .before .before .before .before .before .before .before .before .before .before .before .before .before .before .before .before .before .before .before .before .before .before .before .args in let o = c .loop in
+    Sizes (a .labels .now) (a .centroids .now) (a .distances .now) (a .trial-labels .now) (a .places .now) (a .trial .now) (o .labels) (o .centroids) (o .distances) (o .trial-labels) (o .places) (o .trial)
 since c =
     let l = c .loop .inv .0 in
-    let f = c .before .before .before .before .before .before .before .before .before .before .before .before .before .before .before .before .before .first-restart .kept in
+    let f = c .before .before .before .before .before .before .before .before .before .before .before .first-restart .kept in
     record {
-      l-labels = l .l-labels ∙ f .1 .1 .1 .1 .1 .1 .1 .1 .1 .0;
-      l-centroids = l .l-centroids ∙ f .1 .1 .1 .1 .1 .1 .1 .1 .1 .1 .0;
-      l-distances = l .l-distances ∙ f .1 .1 .1 .1 .1 .1 .1 .1 .1 .1 .1 .0;
-      l-trial-labels = l .l-trial-labels ∙ f .1 .1 .1 .1 .1 .1 .1 .1 .1 .1 .1 .1 .0;
-      l-places = l .l-places ∙ f .1 .1 .1 .1 .1 .1 .1 .1 .1 .1 .1 .1 .1 .0;
-      l-counts = l .l-counts ∙ f .1 .1 .1 .1 .1 .1 .1 .1 .1 .1 .1 .1 .1 .1 .0;
-      l-totals = l .l-totals ∙ f .1 .1 .1 .1 .1 .1 .1 .1 .1 .1 .1 .1 .1 .1 .1 .0;
-      l-at = l .l-at ∙ f .1 .1 .1 .1 .1 .1 .1 .1 .1 .1 .1 .1 .1 .1 .1 .1 .0;
+      l-labels = l .l-labels ∙ f .1 .1 .1 .1 .1 .1 .1 .1 .1 .1 .0;
+      l-centroids = l .l-centroids ∙ f .1 .1 .1 .1 .1 .1 .1 .1 .1 .1 .1 .0;
+      l-distances = l .l-distances ∙ f .1 .1 .1 .1 .1 .1 .1 .1 .1 .1 .1 .1 .0;
+      l-trial-labels = l .l-trial-labels ∙ f .1 .1 .1 .1 .1 .1 .1 .1 .1 .1 .1 .1 .1 .0;
+      l-places = l .l-places ∙ f .1 .1 .1 .1 .1 .1 .1 .1 .1 .1 .1 .1 .1 .1 .0;
       l-trial = l .l-trial;
     }
 
--- src/restart.rt:260:13
 try-restart-requires : tie.Need-try-restart-requires Inv-loop μ-loop
 try-restart-requires c κs =
-    let z = c .before .before .before .before .before .before .before .before .before .before .before .before .before .before .before .before .before .before .before .before .before .before .before .before .before .before .before .before .before .before .before .before .before .before .before .before .before .before .before .before .before .before .before .before .before .before .before .before .before .before .before .before .before in
+    let z = c .before .before .before .before .before .before .before .before .before .before .before .before .before .before .before .before .before .before .before .before .before .before .before .before .before .before .before .before .before .before .before .before .before .before .before .before .before .before in
     let a = z .args in
-    let s = since (c .before .before .before .before .before .before .before .before .before .before .before) in (
+    let s = since (c .before .before .before .before .before .before .before .before) in (
       spaces-out (still-spaces s (spaces-in (z .pre .0))),
       (
-        still-work s (a .dim) (a .config .«decode_block_size») (z .pre .1 .0),
-        ((z .pre .1 .1 .0 .0 ∙ ap (λ (n : ℕ). normsOf (rowsFrom (a .dim) n (a .values .now))) (sym (s .l-labels)), z .pre .1 .1 .0 .1), c .before .before .before .before .before .before .before .before .before .before .before .loop .inv .1 .inside),
+        (z .pre .1 .0 .0, s .l-trial ∙ z .pre .1 .0 .1),
+        ((z .pre .1 .1 .0 .0 ∙ ap (λ (n : ℕ). normsOf (rowsFrom (a .dim) n (a .values .now))) (sym (s .l-labels)), z .pre .1 .1 .0 .1), c .before .before .before .before .before .before .before .before .loop .inv .1 .inside),
       ),
     )
 
--- src/restart.rt:282:9
 add-number : tie.Need-add-number Inv-loop μ-loop
-add-number c = omega (arith, c .before .before .before .before .before .before .before .before .before .before .before .before .before .before .before .before .before .before .before .before .before .before .before .before .before .before .before .before .if1 .taken, c .before .before .before .before .before .before .before .before .before .before .before .before .before .before .before .before .before .before .before .before .before .before .before .before .before .before .before .before .before .struct-known3 .given)
+add-number c = omega (arith, c .before .before .before .before .before .before .before .before .before .before .before .before .before .before .before .before .before .before .before .if1 .taken, c .before .before .before .before .before .before .before .before .before .before .before .before .before .before .before .before .before .before .before .before .struct-known3 .given)
 
--- src/restart.rt:259:5
 loop-less : tie.Need-loop-less Inv-loop μ-loop
-loop-less c = omega (arith, c .before .before .before .before .before .before .before .before .before .before .before .before .before .before .before .before .before .before .before .before .before .before .before .before .before .before .before .before .if1 .taken)
+loop-less c = omega (arith, c .before .before .before .before .before .before .before .before .before .before .before .before .before .before .before .before .before .before .before .if1 .taken)
 
--- src/restart.rt:259:5
 loop-again : tie.Need-loop-again Inv-loop μ-loop
 loop-again c =
-    let l = c .before .before .before .before .before .before .before .before .before .before .before .before .before .before .before .before .before .before .before .before .before .before .before .before .before .before .before .before .before .before .loop .inv .0 in
-    let t = c .before .before .before .before .before .before .before .before .before .before .before .before .before .before .before .before .before .before .try-restart in (
+    let l = c .before .before .before .before .before .before .before .before .before .before .before .before .before .before .before .before .before .before .before .before .before .loop .inv .0 in
+    let t = c .before .before .before .before .before .before .before .before .before .before .before .before .try-restart in (
       record {
-        l-labels = t .kept .1 .1 .1 .1 .1 .1 .1 .1 .1 .1 .0 ∙ l .l-labels;
-        l-centroids = t .kept .1 .1 .1 .1 .1 .1 .1 .1 .1 .1 .1 .0 ∙ l .l-centroids;
-        l-distances = t .kept .1 .1 .1 .1 .1 .1 .1 .1 .1 .1 .1 .1 .0 ∙ l .l-distances;
-        l-trial-labels = t .kept .1 .1 .1 .1 .1 .1 .1 .1 .1 .1 .1 .1 .1 .0 ∙ l .l-trial-labels;
-        l-places = t .kept .1 .1 .1 .1 .1 .1 .1 .1 .1 .1 .1 .1 .1 .1 .0 ∙ l .l-places;
-        l-counts = t .kept .1 .1 .1 .1 .1 .1 .1 .1 .1 .1 .1 .1 .1 .1 .1 .0 ∙ l .l-counts;
-        l-totals = t .kept .1 .1 .1 .1 .1 .1 .1 .1 .1 .1 .1 .1 .1 .1 .1 .1 .0 ∙ l .l-totals;
-        l-at = t .kept .1 .1 .1 .1 .1 .1 .1 .1 .1 .1 .1 .1 .1 .1 .1 .1 .1 .0 ∙ l .l-at;
-        l-trial = t .kept .1 .1 .1 .1 .1 .1 .1 .1 .1 .1 .1 .1 .1 .1 .1 .1 .1 .1 .0 ∙ l .l-trial;
+        l-labels = t .kept .1 .1 .1 .1 .1 .1 .1 .1 .1 .1 .1 .0 ∙ l .l-labels;
+        l-centroids = t .kept .1 .1 .1 .1 .1 .1 .1 .1 .1 .1 .1 .1 .0 ∙ l .l-centroids;
+        l-distances = t .kept .1 .1 .1 .1 .1 .1 .1 .1 .1 .1 .1 .1 .1 .0 ∙ l .l-distances;
+        l-trial-labels = t .kept .1 .1 .1 .1 .1 .1 .1 .1 .1 .1 .1 .1 .1 .1 .0 ∙ l .l-trial-labels;
+        l-places = t .kept .1 .1 .1 .1 .1 .1 .1 .1 .1 .1 .1 .1 .1 .1 .1 .0 ∙ l .l-places;
+        l-trial = t .kept .1 .1 .1 .1 .1 .1 .1 .1 .1 .1 .1 .1 .1 .1 .1 .1 .0 ∙ l .l-trial;
       },
-      trying-step _ _ _ _ _ _ _ _ _ (c .before .before .before .before .before .before .before .before .before .before .before .before .before .before .before .before .before .before .before .before .before .before .before .before .before .before .before .before .before .before .loop .inv .1) _ _ (t .result) (c .before .before .before .before .before .before .before .before .before .before .before .before .before .before .before .before .before .before .before .before .before .before .before .before .before .before .before .before .if1 .taken) (rw (l .l-counts, l .l-labels) at (t .ensures)),
+      trying-step _ _ _ _ _ _ _ _ _ (c .before .before .before .before .before .before .before .before .before .before .before .before .before .before .before .before .before .before .before .before .before .loop .inv .1) _ _ (t .result) (c .before .before .before .before .before .before .before .before .before .before .before .before .before .before .before .before .before .before .before .if1 .taken) (rw (l .l-labels) at (t .ensures)),
     )
 
--- src/restart.rt:212:1
 same-length : tie.Need-same-length Inv-loop μ-loop
 same-length c = search needs
 
--- src/restart.rt:212:1
 same-length-2 : tie.Need-same-length-2 Inv-loop μ-loop
 same-length-2 c = search needs
 
--- src/restart.rt:212:1
 same-length-3 : tie.Need-same-length-3 Inv-loop μ-loop
 same-length-3 c = search needs
 
--- src/restart.rt:212:1
 same-length-4 : tie.Need-same-length-4 Inv-loop μ-loop
 same-length-4 c = search needs
 
--- src/restart.rt:212:1
 same-length-5 : tie.Need-same-length-5 Inv-loop μ-loop
 same-length-5 c = search needs
 
--- src/restart.rt:212:1
 same-length-6 : tie.Need-same-length-6 Inv-loop μ-loop
 same-length-6 c = search needs
 
--- src/restart.rt:212:1
-same-length-7 : tie.Need-same-length-7 Inv-loop μ-loop
-same-length-7 c = search needs
-
--- src/restart.rt:212:1
-same-length-8 : tie.Need-same-length-8 Inv-loop μ-loop
-same-length-8 c = search needs
-
--- src/restart.rt:212:1
-same-length-9 : tie.Need-same-length-9 Inv-loop μ-loop
-same-length-9 c = search needs
-
--- src/restart.rt:212:1
 returns : tie.Need-returns Inv-loop μ-loop
 returns c =
-    let f = c .before .before .before .before .before .before .before .before .before .before .before .before .before .before .before .before .before .before .before .first-restart in
-    trying-end _ _ _ _ _ _ _ _ _ (rw (f .kept .1 .1 .1 .1 .1 .1 .1 .1 .1 .1 .1 .1 .1 .1 .0, f .kept .1 .1 .1 .1 .1 .1 .1 .1 .1 .0) at (c .before .before .loop .inv .1)) _ (c .if1 .left) (f .ensures)
+    let f = c .before .before .before .before .before .before .before .before .before .before .before .before .before .first-restart in
+    trying-end _ _ _ _ _ _ _ _ _ (rw (f .kept .1 .1 .1 .1 .1 .1 .1 .1 .1 .1 .0) at (c .before .before .loop .inv .1)) _ (c .if1 .left) (f .ensures)
 
 pub run-restarts-spec : {M : Type 1} → statement M
 run-restarts-spec =
@@ -161,7 +125,4 @@ run-restarts-spec =
     same-length-4
     same-length-5
     same-length-6
-    same-length-7
-    same-length-8
-    same-length-9
     returns)

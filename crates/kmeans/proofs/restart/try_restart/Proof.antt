@@ -4,7 +4,8 @@ use Prim.Native.Nat.{ℕ, _*_, _≤_}
 use mathlib.Core.Path.{_≡_, refl, sym, ap, _∙_}
 use lib.ListN.{length, take, drop}
 use lib.Seq.{length-take-le}
-use Rattle.kmeans.proofs.Rooms.{spaces-in, room-out}
+use Rattle.steps.proofs.Rooms.{room-out}
+use Rattle.kmeans.proofs.Rooms.{spaces-in}
 use Rattle.kmeans.proofs.Restarts.{trained, tried-better, tried-kept}
 use native.Mathlib.Omega.{arith}
 use borrow.Author.Needs.{needs}
@@ -17,159 +18,108 @@ use Rattle.kmeans.proofs.restart.finish_restart.Reads as finish-restart
 use Rattle.kmeans.proofs.restart.run_restart.Reads as run-restart-reads
 use Rattle.sums.proofs.cells.copy.Reads as copy-reads
 
--- there are at least as many labels and distances as training rows
+-- the parts lent are as long as there are training rows
 labels-fit : (z : tie.Start) → length (z .args .training-own .now) ≤ length (z .args .trial-labels .now)
 labels-fit z = let s = spaces-in (z .pre .0) in omega (arith, s .within, s .trial-cells)
 
 distances-fit : (z : tie.Start) → length (z .args .training-own .now) ≤ length (z .args .distances .now)
 distances-fit z = let s = spaces-in (z .pre .0) in omega (arith, s .within, s .distance-cells)
 
--- src/restart.rt:177:9
-slice-relend-prefix-run-restart : tie.Need-slice-relend-prefix-run-restart
-slice-relend-prefix-run-restart c = labels-fit (c .before .before .before .before .before .before .before .before .before .before .before .before .before .before .before .before .before)
-
--- the parts lent are as long as there are training rows
 labels-lent : (z : tie.Start) → length (take (length (z .args .training-own .now)) (z .args .trial-labels .now)) ≡ length (z .args .training-own .now)
 labels-lent z = length-take-le _ (z .args .trial-labels .now) (labels-fit z)
 
 distances-lent : (z : tie.Start) → length (take (length (z .args .training-own .now)) (z .args .distances .now)) ≡ length (z .args .training-own .now)
 distances-lent z = length-take-le _ (z .args .distances .now) (distances-fit z)
 
--- src/restart.rt:177:9
+slice-relend-prefix-run-restart : tie.Need-slice-relend-prefix-run-restart
+slice-relend-prefix-run-restart c = labels-fit (c .before .before .before .before .before .before .before .before .before .before .before .before .before .before)
+
 slice-aggregate-run-restart : tie.Need-slice-aggregate-run-restart
-slice-aggregate-run-restart c = sym (labels-lent (c .before .before .before .before .before .before .before .before .before .before .before .before .before .before .before .before .before .before))
+slice-aggregate-run-restart c = sym (labels-lent (c .before .before .before .before .before .before .before .before .before .before .before .before .before .before .before))
 
--- src/restart.rt:178:9
 slice-relend-prefix-run-restart-2 : tie.Need-slice-relend-prefix-run-restart-2
-slice-relend-prefix-run-restart-2 c = distances-fit (c .before .before .before .before .before .before .before .before .before .before .before .before .before .before .before .before .before .before)
+slice-relend-prefix-run-restart-2 c = distances-fit (c .before .before .before .before .before .before .before .before .before .before .before .before .before .before .before)
 
--- src/restart.rt:178:9
 slice-aggregate-run-restart-2 : tie.Need-slice-aggregate-run-restart-2
-slice-aggregate-run-restart-2 c = sym (distances-lent (c .before .before .before .before .before .before .before .before .before .before .before .before .before .before .before .before .before .before .before))
+slice-aggregate-run-restart-2 c = sym (distances-lent (c .before .before .before .before .before .before .before .before .before .before .before .before .before .before .before .before))
 
--- src/restart.rt:167:9
 run-restart-requires : tie.Need-run-restart-requires
 run-restart-requires c κs =
-    let z = c .before .before .before .before .before .before .before .before .before .before .before .before .before .before .before .before .before .before .before .before .before .before in
+    let z = c .before .before .before .before .before .before .before .before .before .before .before .before .before .before .before .before in
     let s = spaces-in (z .pre .0) in
-    let q = z .pre .1 .0 in
-    rw (labels-lent z, distances-lent z) (room-out (trained s _ _ _ _ (q .0) (q .1 .1 .1) (q .1 .0) (q .1 .1 .0)), (z .pre .1 .1 .0 .1, (z .pre .1 .1 .1, (s .place-cells, s .enough))))
+    rw (labels-lent z, distances-lent z) (room-out (trained s _ _ (z .pre .1 .0 .0) (z .pre .1 .0 .1)), (z .pre .1 .1 .0 .1, (z .pre .1 .1 .1, (s .place-cells, s .enough))))
 
 -- the slices with the parts lent back in front
-labels-back : (c : tie.After-run-restart) → let a = c .before .before .before .before .before .before .before .before .before .before .before .before .before .before .before .before .before .before .before .before .before .before .before .args in length (c .run-restart .last .1 .1 .1 .1 .1 .1 .1 .1 .1 .0 ++ drop (length (a .training-own .now)) (a .trial-labels .now)) ≡ length (a .labels .now)
+labels-back : (c : tie.After-run-restart) → let a = c .before .before .before .before .before .before .before .before .before .before .before .before .before .before .before .before .before .args in length (c .run-restart .last .1 .1 .1 .1 .1 .1 .1 .1 .1 .1 .0 ++ drop (length (a .training-own .now)) (a .trial-labels .now)) ≡ length (a .labels .now)
 labels-back c =
-    let z = c .before .before .before .before .before .before .before .before .before .before .before .before .before .before .before .before .before .before .before .before .before .before .before in
-    front-back (length (z .args .training-own .now)) (z .args .trial-labels .now) (c .run-restart .last .1 .1 .1 .1 .1 .1 .1 .1 .1 .0) (labels-fit z) (c .run-restart .kept .1 .1 .1 .1 .1 .1 .1 .1 .1 .0) ∙ (spaces-in (z .pre .0)) .trial-cells
+    let z = c .before .before .before .before .before .before .before .before .before .before .before .before .before .before .before .before .before in
+    front-back (length (z .args .training-own .now)) (z .args .trial-labels .now) (c .run-restart .last .1 .1 .1 .1 .1 .1 .1 .1 .1 .1 .0) (labels-fit z) (c .run-restart .kept .1 .1 .1 .1 .1 .1 .1 .1 .1 .1 .0) ∙ (spaces-in (z .pre .0)) .trial-cells
 
-distances-back : (c : tie.After-run-restart) → let a = c .before .before .before .before .before .before .before .before .before .before .before .before .before .before .before .before .before .before .before .before .before .before .before .args in length (c .run-restart .last .1 .1 .1 .1 .1 .1 .1 .1 .1 .1 .0 ++ drop (length (a .training-own .now)) (a .distances .now)) ≡ length (a .labels .now)
+distances-back : (c : tie.After-run-restart) → let a = c .before .before .before .before .before .before .before .before .before .before .before .before .before .before .before .before .before .args in length (c .run-restart .last .1 .1 .1 .1 .1 .1 .1 .1 .1 .1 .1 .0 ++ drop (length (a .training-own .now)) (a .distances .now)) ≡ length (a .labels .now)
 distances-back c =
-    let z = c .before .before .before .before .before .before .before .before .before .before .before .before .before .before .before .before .before .before .before .before .before .before .before in
-    front-back (length (z .args .training-own .now)) (z .args .distances .now) (c .run-restart .last .1 .1 .1 .1 .1 .1 .1 .1 .1 .1 .0) (distances-fit z) (c .run-restart .kept .1 .1 .1 .1 .1 .1 .1 .1 .1 .1 .0) ∙ (spaces-in (z .pre .0)) .distance-cells
+    let z = c .before .before .before .before .before .before .before .before .before .before .before .before .before .before .before .before .before in
+    front-back (length (z .args .training-own .now)) (z .args .distances .now) (c .run-restart .last .1 .1 .1 .1 .1 .1 .1 .1 .1 .1 .1 .0) (distances-fit z) (c .run-restart .kept .1 .1 .1 .1 .1 .1 .1 .1 .1 .1 .1 .0) ∙ (spaces-in (z .pre .0)) .distance-cells
 
--- src/restart.rt:183:9
 finish-restart-requires : tie.Need-finish-restart-requires
 finish-restart-requires c κs =
-    let z = c .before .before .before .before .before .before .before .before .before .before .before .before .before .before .before .before .before .before .before .before .before .before .before .before .before .before .before .before .before .before .before .before .before .before .before .before .before .before .before .before in
+    let z = c .before .before .before .before .before .before .before .before .before .before .before .before .before .before .before .before .before .before .before .before .before .before .before .before .before .before .before .before in
     let s = spaces-in (z .pre .0) in
-    rw (labels-back (c .before .before .before .before .before .before .before .before .before .before .before .before .before .before .before .before .before), distances-back (c .before .before .before .before .before .before .before .before .before .before .before .before .before .before .before .before .before)) (
-      record {
-        some = s .some-dim;
-        small = s .small-dim;
-        few = s .few;
-        value-cells = s .value-cells;
-        centroid-cells = c .before .before .before .before .before .before .before .before .before .before .before .before .before .before .before .before .before .run-restart .kept .1 .1 .1 .1 .1 .1 .1 .1 .0 ∙ z .pre .1 .0 .1 .1 .1;
-        distance-cells = refl;
-        measured = z .pre .1 .1 .0 .0;
-      },
+    rw (labels-back (c .before .before .before .before .before .before .before .before .before .before .before), distances-back (c .before .before .before .before .before .before .before .before .before .before .before)) (
+      (
+        (s .some-dim, (s .small-dim, s .few)),
+        (s .value-cells, (c .before .before .before .before .before .before .before .before .before .before .before .run-restart .kept .1 .1 .1 .1 .1 .1 .1 .1 .1 .0 ∙ z .pre .1 .0 .1, (refl, z .pre .1 .1 .0 .0))),
+      ),
       s .some,
     )
 
--- src/restart.rt:185:9
 copy-cells-requires : tie.Need-copy-cells-requires
-copy-cells-requires c κs = sym (c .before .before .before .before .before .before .before .before .finish-restart .kept .1 .1 .1 .1 .1 .0 ∙ labels-back (c .before .before .before .before .before .before .before .before .before .before .before .before .before .before .before .before .before .before .before .before .before .before .before .before .before .before))
+copy-cells-requires c κs = sym (c .before .before .before .before .before .before .before .before .finish-restart .kept .1 .1 .1 .1 .1 .0 ∙ labels-back (c .before .before .before .before .before .before .before .before .before .before .before .before .before .before .before .before .before .before .before .before))
 
--- src/restart.rt:186:9
 copy-requires : tie.Need-copy-requires
 copy-requires c κs =
-    let z = c .before .before .before .before .before .before .before .before .before .before .before .before .before .before .before .before .before .before .before .before .before .before .before .before .before .before .before .before .before .before .before .before .before .before .before .before .before .before .before .before .before .before .before .before .before .before .before .before .before .before .before .before .before .before in
-    (spaces-in (z .pre .0)) .centroid-cells ∙ sym (c .before .before .before .before .before .before .before .before .before .before .before .before .before .before .before .before .before .before .before .before .before .before .before .before .before .before .before .before .before .before .before .run-restart .kept .1 .1 .1 .1 .1 .1 .1 .1 .0 ∙ z .pre .1 .0 .1 .1 .1)
+    let z = c .before .before .before .before .before .before .before .before .before .before .before .before .before .before .before .before .before .before .before .before .before .before .before .before .before .before .before .before .before .before .before .before .before .before .before .before .before .before .before .before .before .before in
+    (spaces-in (z .pre .0)) .centroid-cells ∙ sym (c .before .before .before .before .before .before .before .before .before .before .before .before .before .before .before .before .before .before .before .before .before .before .before .before .before .run-restart .kept .1 .1 .1 .1 .1 .1 .1 .1 .1 .0 ∙ z .pre .1 .0 .1)
 
--- src/restart.rt:187:9
 same-length : tie.Need-same-length
 same-length c = search needs
 
--- src/restart.rt:187:9
 same-length-2 : tie.Need-same-length-2
 same-length-2 c = search needs
 
--- src/restart.rt:187:9
 same-length-3 : tie.Need-same-length-3
 same-length-3 c = search needs
 
--- src/restart.rt:187:9
 same-length-4 : tie.Need-same-length-4
 same-length-4 c = search needs
 
--- src/restart.rt:187:9
 same-length-5 : tie.Need-same-length-5
 same-length-5 c = search needs
 
--- src/restart.rt:187:9
 same-length-6 : tie.Need-same-length-6
 same-length-6 c = search needs
 
--- src/restart.rt:187:9
+returns : tie.Need-returns
+returns c =
+    let z = c .before .before .before .before .before .before .before .before .before .before .before .before .before .before .before .before .before .before .before .before .before .before .before .before .before .before .before .before .before .before .before .before .before .before .before .before .before .before .before .before .before .before .before .before .before in
+    rw (c .before .before .before .before .before .before .before .copy-cells .ensures, c .before .before .copy .ensures)
+    (tried-better _ _ _ _ _ _ _ _ (z .args .best) _ _ _ _ _ _ (rw (labels-lent z) at (c .before .before .before .before .before .before .before .before .before .before .before .before .before .before .before .before .before .before .before .before .before .before .before .before .before .before .before .before .run-restart .ensures)) (rw (labels-back (c .before .before .before .before .before .before .before .before .before .before .before .before .before .before .before .before .before .before .before .before .before .before .before .before .before .before .before .before)) at (c .before .before .before .before .before .before .before .before .before .before .before .before .before .before .before .before .finish-restart .ensures)) (c .before .before .before .before .before .before .before .before .before .before .if1 .taken))
+
 same-length-7 : tie.Need-same-length-7
 same-length-7 c = search needs
 
--- src/restart.rt:187:9
 same-length-8 : tie.Need-same-length-8
 same-length-8 c = search needs
 
--- src/restart.rt:187:9
 same-length-9 : tie.Need-same-length-9
 same-length-9 c = search needs
 
--- src/restart.rt:187:9
-returns : tie.Need-returns
-returns c =
-    let z = c .before .before .before .before .before .before .before .before .before .before .before .before .before .before .before .before .before .before .before .before .before .before .before .before .before .before .before .before .before .before .before .before .before .before .before .before .before .before .before .before .before .before .before .before .before .before .before .before .before .before .before .before .before .before .before .before .before in
-    rw (c .before .before .before .before .before .before .before .copy-cells .ensures, c .before .before .copy .ensures)
-    (tried-better _ _ _ _ _ _ _ _ (z .args .best) _ _ _ _ _ _ (rw (labels-lent z) at (c .before .before .before .before .before .before .before .before .before .before .before .before .before .before .before .before .before .before .before .before .before .before .before .before .before .before .before .before .before .before .before .before .before .before .run-restart .ensures)) (rw (labels-back (c .before .before .before .before .before .before .before .before .before .before .before .before .before .before .before .before .before .before .before .before .before .before .before .before .before .before .before .before .before .before .before .before .before .before)) at (c .before .before .before .before .before .before .before .before .before .before .before .before .before .before .before .before .finish-restart .ensures)) (c .before .before .before .before .before .before .before .before .before .before .if1 .taken))
-
--- src/restart.rt:137:1
 same-length-10 : tie.Need-same-length-10
 same-length-10 c = search needs
 
--- src/restart.rt:137:1
-same-length-11 : tie.Need-same-length-11
-same-length-11 c = search needs
-
--- src/restart.rt:137:1
-same-length-12 : tie.Need-same-length-12
-same-length-12 c = search needs
-
--- src/restart.rt:137:1
-same-length-13 : tie.Need-same-length-13
-same-length-13 c = search needs
-
--- src/restart.rt:137:1
-same-length-14 : tie.Need-same-length-14
-same-length-14 c = search needs
-
--- src/restart.rt:137:1
-same-length-15 : tie.Need-same-length-15
-same-length-15 c = search needs
-
--- src/restart.rt:137:1
-same-length-16 : tie.Need-same-length-16
-same-length-16 c = search needs
-
--- src/restart.rt:137:1
 returns-2 : tie.Need-returns-2
 returns-2 c =
-    let z = c .before .before .before .before .before .before .before .before .before .before .before .before .before .before .before .before .before .before .before .before .before .before .before .before .before .before .before .before .before .before .before .before .before .before .before .before .before .before .before .before .before .before .before .before .before .before .before in
-    tried-kept _ _ _ _ _ _ _ _ (z .args .best) _ _ _ _ _ _ (rw (labels-lent z) at (c .before .before .before .before .before .before .before .before .before .before .before .before .before .before .before .before .before .before .before .before .before .before .before .before .run-restart .ensures)) (rw (labels-back (c .before .before .before .before .before .before .before .before .before .before .before .before .before .before .before .before .before .before .before .before .before .before .before .before)) at (c .before .before .before .before .before .before .finish-restart .ensures)) (c .if1 .left)
+    let z = c .before .before .before .before .before .before .before .before .before .before .before .before .before .before .before .before .before .before .before .before .before .before .before .before .before .before .before .before .before .before .before .before .before .before .before in
+    tried-kept _ _ _ _ _ _ _ _ (z .args .best) _ _ _ _ _ _ (rw (labels-lent z) at (c .before .before .before .before .before .before .before .before .before .before .before .before .before .before .before .before .before .before .run-restart .ensures)) (rw (labels-back (c .before .before .before .before .before .before .before .before .before .before .before .before .before .before .before .before .before .before)) at (c .before .before .before .before .before .before .finish-restart .ensures)) (c .if1 .left)
 
 pub try-restart-spec : {M : Type 1} → statement M
 try-restart-spec =
@@ -189,15 +139,9 @@ try-restart-spec =
     same-length-4
     same-length-5
     same-length-6
+    returns
     same-length-7
     same-length-8
     same-length-9
-    returns
     same-length-10
-    same-length-11
-    same-length-12
-    same-length-13
-    same-length-14
-    same-length-15
-    same-length-16
     returns-2)

@@ -88,15 +88,7 @@ slice-aggregate-assign-rows-2 c = sym (zeros (c .before .before .before .before 
 assign-rows-requires : tie.Need-assign-rows-requires
 assign-rows-requires c κs =
     let e = c .before .before .before .before .before .before in
-    record {
-      some = fits e .some;
-      small = fits e .small;
-      few = fits e .few;
-      value-cells = value-cells e;
-      centroid-cells = fits e .centroids-are;
-      distance-cells = zeros e;
-      measured = own-holds (c .before .before .before .before) .is;
-    }
+    ((fits e .some, (fits e .small, fits e .few)), (value-cells e, (fits e .centroids-are, (zeros e, own-holds (c .before .before .before .before) .is))))
 
 same-length-2 : tie.Need-same-length-2
 same-length-2 c = search needs

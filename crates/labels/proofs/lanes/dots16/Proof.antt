@@ -42,7 +42,7 @@ loop-again : tie.Need-loop-again Inv-loop μ-loop
 loop-again c =
     let t = c .before .before .before .before in
     let a = t .before .before .before .args in
-    (search needs, c .lane16 .ensures ∙ rw (t .loop .inv .1) (parts-more (a .row .now) (a .panel .now) (t .loop .i) (omega arith)))
+    (search needs, parts-more (a .row .now) (a .panel .now) _ _ (t .loop .i) (omega arith) (t .loop .inv .1) (c .lane16 .ensures))
 
 returns : tie.Need-returns Inv-loop μ-loop
 returns c =

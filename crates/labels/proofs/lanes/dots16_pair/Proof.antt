@@ -54,8 +54,8 @@ loop-again c =
     let a = t .before .before .before .before .args in (
       search needs,
       (
-        c .before .before .before .lane16 .ensures ∙ rw (t .loop .inv .1 .0) (parts-more (a .first .now) (a .panel .now) (t .loop .i) (omega arith)),
-        c .lane162 .ensures ∙ rw (t .loop .inv .1 .1) (parts-more (a .second .now) (a .panel .now) (t .loop .i) (omega arith)),
+        parts-more (a .first .now) (a .panel .now) _ _ (t .loop .i) (omega arith) (t .loop .inv .1 .0) (c .before .before .before .lane16 .ensures),
+        parts-more (a .second .now) (a .panel .now) _ _ (t .loop .i) (omega arith) (t .loop .inv .1 .1) (c .lane162 .ensures),
       ),
     )
 

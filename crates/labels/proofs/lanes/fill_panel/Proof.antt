@@ -1,4 +1,3 @@
-use Rattle.labels.specs.Panels.{panelOf}
 use Rattle.labels.proofs.Columns.{inPanel, line-is}
 use Rattle.sums.proofs.Fronts.{fill-part}
 use Rattle.sums.proofs.Tables.{fill-done}
@@ -63,7 +62,6 @@ same-length : tie.Need-same-length Inv-loop μ-loop
 same-length c = search needs
 
 returns : tie.Need-returns Inv-loop μ-loop
-unfolding panelOf
 returns c =
     let t = c .before in
     let e : t .loop .d ≡ t .before .before .before .args .dim = omega arith in

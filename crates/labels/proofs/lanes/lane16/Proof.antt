@@ -1,5 +1,4 @@
 use Rattle.labels.proofs.Columns.{laneAt}
-use Rattle.labels.specs.Panels.{laneOf}
 use Rattle.sums.proofs.Tables.{over-read, over-more, over-done}
 use Rattle.sums.specs.Tables.{tabulate}
 use lib.Ieee.{nan}
@@ -57,7 +56,6 @@ loop-again c =
     (search needs, rw (t .loop .inv .1) (over-more f (a .acc .now) (t .loop .j) _ (omega arith) (rw (over-read f (a .acc .now) (t .loop .j) nan (omega arith)))))
 
 returns : tie.Need-returns Inv-loop μ-loop
-unfolding laneOf
 returns c =
     let a = c .before .before .args in
     let n : length (a .acc .now) ≡ 16 = c .before .before .pre .0 in

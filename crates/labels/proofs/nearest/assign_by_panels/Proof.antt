@@ -2,7 +2,9 @@ use Prim.Native.Nat.{ℕ, _≤_, _+_, _-_, _*_, _<_}
 use mathlib.Core.Path.{_≡_, refl, _∙_}
 use native.Mathlib.Nat.{add-sub-cancel-left, suc-mul}
 use native.Mathlib.Numerals.{add-one}
-use lib.ListN.{length}
+use lib.ListN.{length, getD}
+use lib.Ieee.{nan}
+use Rattle.sums.specs.Rows.{rowAt}
 use Rattle.sums.proofs.Rows.{room, part-length}
 use Rattle.labels.specs.declared.nearest.Nearest.{Nearest}
 use Rattle.labels.specs.Inside.{byPanels}
@@ -13,7 +15,7 @@ use Rattle.labels.proofs.nearest.assign_by_panels.Statement.{statement}
 use Rattle.labels.proofs.nearest.assign_by_panels.Tie as tie
 
 abbrev Inv-loop : tie.InvT-loop
-Inv-loop values own dim panels norms labels₀ distances₀ same₀ i₀ labels distances same i = Assigning (byPanels values own dim panels norms) labels₀ labels distances same i
+Inv-loop values own dim panels norms labels₀ distances₀ same₀ i₀ labels distances same i = Assigning (λ n. byPanels (rowAt values dim n) (getD own n nan) panels norms) labels₀ labels distances same i
 
 abbrev μ-loop : tie.MeasureT-loop
 μ-loop values own dim panels norms labels₀ distances₀ same₀ i₀ labels distances same i = length labels₀ - i
@@ -107,7 +109,7 @@ loop-again c =
     let t = c .before .before .before .before .before .before .before .before .before .before .before .before .before .before .before .before .before .before .before .before in
     let z = t .before .before .before .before .before .before .before in
     let p = c .before .before .before .before .before .before .before .before .before .before .before .before .before .before .find-nearest-pair in
-    let f : ℕ → Nearest = byPanels (z .args .values .now) (z .args .own .now) (z .args .dim) (z .args .panels .now) (z .args .norms .now) in
+    let f : ℕ → Nearest = λ n. byPanels (rowAt (z .args .values .now) (z .args .dim) n) (getD (z .args .own .now) n nan) (z .args .panels .now) (z .args .norms .now) in
     let l : t .loop .i + 1 < length (z .args .labels .now) = omega (arith, c .before .before .before .before .before .before .before .before .before .before .before .before .before .before .before .before .before .before .before .loop-test .taken, t .loop .inv .labels-sized) in
     let first : p .result .first ≡ f (t .loop .i) = p .ensures .0 ∙ rw add-sub-cancel-left in
     let second : p .result .second ≡ f (t .loop .i + 1) = p .ensures .1 ∙ rw (add-sub-cancel-left, add-one, suc-mul) in

@@ -29,8 +29,8 @@ panelCells z = (z .args .k + 15) / 16 * (16 * z .args .dim)
 
 cells-fit : (z : tie.Start) → panelCells z ≤ 4096
 cells-fit z =
-    let panels : (z .args .k + 15) / 16 ≤ 4 = omega (arith, z .pre .few) in
-    let wide : 16 * z .args .dim ≤ 1024 = omega (arith, z .pre .small) in
+    let panels : (z .args .k + 15) / 16 ≤ 4 = omega (arith, z .pre .0 .1 .1) in
+    let wide : 16 * z .args .dim ≤ 1024 = omega (arith, z .pre .0 .1 .0) in
     mul-le-mul panels wide
 
 -- as long as the parts lent are
@@ -38,7 +38,7 @@ room-length : (z : tie.Start) → length (take (panelCells z) (replicate 4096 (o
 room-length z = length-take-le (panelCells z) (replicate 4096 (ofBits binary32 0)) (cells-fit z)
 
 lengths-length : (z : tie.Start) → length (take (z .args .k) (replicate 64 (ofBits binary32 0))) ≡ z .args .k
-lengths-length z = length-take-le (z .args .k) (replicate 64 (ofBits binary32 0)) (z .pre .few)
+lengths-length z = length-take-le (z .args .k) (replicate 64 (ofBits binary32 0)) (z .pre .0 .1 .1)
 
 mul-cells-2 : tie.Need-mul-cells-2
 mul-cells-2 c = omega (arith, cells-fit (c .before .before .before .before .before))
@@ -52,7 +52,7 @@ slice-aggregate-fill-panels c = sym (room-length (c .before .before .before .bef
 fill-panels-requires : tie.Need-fill-panels-requires
 fill-panels-requires c κs =
     let z = c .before .before .before .before .before .before in
-    ((z .pre .some, (z .pre .small, (omega (arith, z .pre .few), room-length z))), z .pre .centroid-cells)
+    ((z .pre .0 .0, (z .pre .0 .1 .0, (omega (arith, z .pre .0 .1 .1), room-length z))), z .pre .1 .1 .0)
 
 array-borrow-prefix-lengths : tie.Need-array-borrow-prefix-lengths
 array-borrow-prefix-lengths c = search needs
@@ -63,7 +63,7 @@ slice-aggregate-compute-norms c = sym (lengths-length (c .before .before .before
 compute-norms-requires : tie.Need-compute-norms-requires
 compute-norms-requires c κs =
     let z = c .before .before .before .before .before .before .before .before .before in
-    z .pre .centroid-cells ∙ ap (λ (n : ℕ). n * z .args .dim) (sym (lengths-length z))
+    z .pre .1 .1 .0 ∙ ap (λ (n : ℕ). n * z .args .dim) (sym (lengths-length z))
 
 -- the arrays with the filled parts back in front
 abbrev roomAfter : tie.After-fill-panels → List Float
@@ -103,8 +103,8 @@ assign-by-panels-requires : tie.Need-assign-by-panels-requires
 assign-by-panels-requires c κs =
     let z = c .before .before .before .before .before .before .before .before .before .before .before .before .before .before .before in
     let q = lengths-hold (c .before .before .before .before .before) .long in
-    let own : length (z .args .own .now) ≡ length (z .args .labels .now) = ap length (z .pre .measured) ∙ norms-length _ _ _ in
-    ((z .pre .value-cells, (z .pre .distance-cells, own)), (z .pre .small, (rw q (z .pre .few), rw q (le-of-eq (sym (room-holds (c .before .before .before .before .before .before .before .before) .long))))))
+    let own : length (z .args .own .now) ≡ length (z .args .labels .now) = ap length (z .pre .1 .1 .1 .1) ∙ norms-length _ _ _ in
+    ((z .pre .1 .0, (z .pre .1 .1 .1 .0, own)), (z .pre .0 .1 .0, (rw q (z .pre .0 .1 .1), rw q (le-of-eq (sym (room-holds (c .before .before .before .before .before .before .before .before) .long))))))
 
 same-length : tie.Need-same-length
 same-length c = search needs
@@ -115,7 +115,8 @@ same-length-2 c = search needs
 returns : tie.Need-returns
 returns c =
     let z = c .before .before .before .before .before .before .before .before .before .before .before .before .before .before .before .before .before .before .before .before in
-    by-centroids (z .pre) _ _ _ _ (panelCells z) (le-of-eq refl) refl (room-holds (c .before .before .before .before .before .before .before .before .before .before .before .before .before) .is) (lengths-hold (c .before .before .before .before .before .before .before .before .before .before) .is) (c .before .before .before .before .assign-by-panels .ensures)
+    let a = z .args in
+    by-centroids (a .dim) (a .k) (a .values .now) (a .own .now) (a .centroids .now) (length (a .labels .now)) (length (a .distances .now)) (z .pre) _ _ _ _ (panelCells z) (le-of-eq refl) refl (room-holds (c .before .before .before .before .before .before .before .before .before .before .before .before .before) .is) (lengths-hold (c .before .before .before .before .before .before .before .before .before .before) .is) (c .before .before .before .before .assign-by-panels .ensures)
 
 pub assign-rows-spec : {M : Type 1} → statement M
 assign-rows-spec =

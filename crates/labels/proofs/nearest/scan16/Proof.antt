@@ -1,5 +1,4 @@
-use Rattle.labels.proofs.Searches.{from-more}
-use Rattle.labels.specs.Inside.{Scanned}
+use Rattle.labels.proofs.Searches.{Scanned, from-more}
 use Rattle.labels.specs.Label.{better, nearestFrom}
 use mathlib.Core.Logic.{⊎-elim}
 use mathlib.Core.Path.{_≡_, refl}

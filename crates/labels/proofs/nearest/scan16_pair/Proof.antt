@@ -1,8 +1,7 @@
 use Prim.Native.Nat.{_≤_, _-_}
 use mathlib.Core.Path.{_≡_, refl, sym, _∙_}
 use Rattle.labels.specs.Label.{nearestFrom}
-use Rattle.labels.specs.Inside.{Scanned}
-use Rattle.labels.proofs.Searches.{from-more}
+use Rattle.labels.proofs.Searches.{Scanned, from-more}
 use borrow.Author.Needs.{needs}
 use native.Mathlib.Omega.{arith}
 use Rattle.labels.proofs.nearest.scan16_pair.Statement.{statement}

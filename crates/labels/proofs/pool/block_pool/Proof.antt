@@ -1,5 +1,4 @@
-use Rattle.labels.proofs.Pools.{empty, block-step, block-end}
-use Rattle.labels.specs.Inside.{Pooled}
+use Rattle.labels.proofs.Pools.{Pooled, pooled-in, empty, block-step, block-end}
 use Rattle.sums.specs.Tables.{upTo}
 use lib.ListN.{length}
 use mathlib.Core.Path.{_≡_, refl, _∙_}
@@ -24,7 +23,7 @@ cast-insert-candidate : tie.Need-cast-insert-candidate Inv-loop μ-loop
 cast-insert-candidate c = search needs
 
 insert-candidate-requires : tie.Need-insert-candidate-requires Inv-loop μ-loop
-insert-candidate-requires c κs = search needs
+insert-candidate-requires c κs = (c .before .before .loop .inv .1 .1 .held, omega arith)
 
 add-i : tie.Need-add-i Inv-loop μ-loop
 add-i c = search needs
@@ -36,7 +35,7 @@ loop-again : tie.Need-loop-again Inv-loop μ-loop
 loop-again c =
     let k = c .before .before .before .before .before in
     let m = c .before .before .insert-candidate in
-    (omega (arith, c .before .before .before .before .loop-test .taken), (m .kept .1 .0 ∙ k .loop .inv .1 .0, block-step _ _ _ _ _ _ (k .loop .i) (k .loop .inv .1 .1) (m .ensures)))
+    (omega (arith, c .before .before .before .before .loop-test .taken), (m .kept .1 .0 ∙ k .loop .inv .1 .0, block-step _ _ _ _ _ _ (k .loop .i) (k .loop .inv .1 .1) (pooled-in (m .ensures))))
 
 same-length : tie.Need-same-length Inv-loop μ-loop
 same-length c = search needs

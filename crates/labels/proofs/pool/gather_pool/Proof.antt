@@ -1,4 +1,4 @@
-use Rattle.labels.proofs.Pools.{Gathering, gathering-start, gathering-step, gathering-end}
+use Rattle.labels.proofs.Pools.{pooled-in, Gathering, gathering-start, gathering-step, gathering-end}
 use lib.ListN.{length}
 use mathlib.Core.Path.{_≡_, refl, _∙_}
 use Prim.Native.Nat.{_≤_, _-_}
@@ -14,7 +14,7 @@ abbrev μ-loop : tie.MeasureT-loop
 μ-loop distances block at₀ cap held₀ start₀ at held start = length distances - start
 
 loop-holds : tie.Need-loop-holds Inv-loop μ-loop
-loop-holds c = (search needs, (refl, gathering-start _ _ _ _ (c .before .before .pre .0)))
+loop-holds c = let z = c .before .before in (search needs, (refl, gathering-start (z .args .distances .now) (z .args .block) (z .args .cap) (z .args .at .now) (z .pre .0)))
 
 sub-least : tie.Need-sub-least Inv-loop μ-loop
 sub-least c = search needs
@@ -41,7 +41,7 @@ loop-again c =
       omega (arith, t, m),
       (
         j .kept .1 .1 .1 .0 ∙ k .loop .inv .1 .0,
-        gathering-step _ _ _ _ _ _ _ _ (k .loop .start) (c .before .before .before .before .least .result) (k .loop .inv .1 .1) t (z .pre .1 .1) m (j .ensures),
+        gathering-step _ _ _ _ _ _ _ _ (k .loop .start) (c .before .before .before .before .least .result) (k .loop .inv .1 .1) t (z .pre .1 .1) m (pooled-in (j .ensures)),
       ),
     )
 

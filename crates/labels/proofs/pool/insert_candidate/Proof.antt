@@ -1,4 +1,4 @@
-use Rattle.labels.proofs.Pools.{stays, goes-in}
+use Rattle.labels.proofs.Pools.{pooled-out, stays, goes-in}
 use Rattle.sums.proofs.Inserts.{place-within}
 use Rattle.labels.specs.Pool.{farther}
 use mathlib.Core.Logic.{inl, inr}
@@ -17,7 +17,7 @@ within : (c : tie.After-place) → c .place .result ≤ c .before .before .befor
 within c =
     let z = c .before .before .before .before in
     let a = z .args in
-    rw (c .place .ensures) (place-within (farther (a .distances .now)) (a .at .now) (a .count) (a .cap) (a .p) (z .pre .0 .within) (z .pre .0 .room))
+    rw (c .place .ensures) (place-within (farther (a .distances .now)) (a .at .now) (a .count) (a .cap) (a .p) (z .pre .0 .1 .0) (z .pre .0 .1 .1 .0))
 
 same-length : tie.Need-same-length
 same-length c = search needs
@@ -25,7 +25,8 @@ same-length c = search needs
 returns : tie.Need-returns
 returns c =
     let z = c .before .before .before .before .before in
-    stays _ _ _ _ _ (z .pre .0) (z .pre .1) (omega (arith, c .before .place .ensures, c .if1 .taken))
+    let a = z .args in
+    pooled-out (stays (a .distances .now) (a .at .now) (a .count) (a .cap) (a .p) (z .pre .0) (z .pre .1) (omega (arith, c .before .place .ensures, c .if1 .taken)))
 
 sub-insert-at : tie.Need-sub-insert-at
 sub-insert-at c = search needs
@@ -41,8 +42,9 @@ returns-2 c =
     let z = c .before .before .before .before .before .before .before .before .before .before in
     let m = c .before .before .before .before .before .before in
     let i = c .before .before .insert-at in
-    goes-in _ _ _ _ _ (z .pre .0) (z .pre .1) (m .place .result) (z .args .count - 1) _ _ (i .ensures) (i .kept .0) (omega (arith, z .pre .0, c .before .before .before .before .if2 .taken)) (m .place .ensures)
-    (omega (arith, within m, z .pre .0)) (omega arith) (omega (arith, z .pre .0)) (inl (omega (arith, z .pre .0)))
+    let a = z .args in
+    pooled-out (goes-in (a .distances .now) (a .at .now) (a .count) (a .cap) (a .p) (z .pre .0) (z .pre .1) (m .place .result) (z .args .count - 1) _ _ (i .ensures) (i .kept .0) (omega (arith, z .pre .0, c .before .before .before .before .if2 .taken)) (m .place .ensures)
+    (omega (arith, within m, z .pre .0)) (omega arith) (omega (arith, z .pre .0)) (inl (omega (arith, z .pre .0))))
 
 insert-at-requires-2 : tie.Need-insert-at-requires-2
 insert-at-requires-2 c κs = omega (arith, within (c .before .before .before), c .before .before .before .before .before .before .before .pre .0)
@@ -58,7 +60,8 @@ returns-3 c =
     let z = c .before .before .before .before .before .before .before .before .before .before in
     let m = c .before .before .before .before .before .before in
     let i = c .before .before .insert-at2 in
-    goes-in _ _ _ _ _ (z .pre .0) (z .pre .1) (m .place .result) (z .args .count) _ _ (i .ensures) (i .kept .0) refl (m .place .ensures) (within m) (omega arith) (omega (arith, z .pre .0)) (inr refl)
+    let a = z .args in
+    pooled-out (goes-in (a .distances .now) (a .at .now) (a .count) (a .cap) (a .p) (z .pre .0) (z .pre .1) (m .place .result) (z .args .count) _ _ (i .ensures) (i .kept .0) refl (m .place .ensures) (within m) (omega arith) (omega (arith, z .pre .0)) (inr refl))
 
 pub insert-candidate-spec : {M : Type 1} → statement M
 insert-candidate-spec =

@@ -1,5 +1,4 @@
-use Rattle.labels.proofs.Pools.{pooled-none, join-position, join-step, join-end}
-use Rattle.labels.specs.Inside.{Pooled}
+use Rattle.labels.proofs.Pools.{Pooled, pooled-in, pooled-out, pooled-none, join-position, join-step, join-end}
 use lib.ListN.{length, take, getD}
 use mathlib.Core.List.{map}
 use mathlib.Core.Path.{_≡_, refl, _∙_}
@@ -34,7 +33,7 @@ block-pool-requires : tie.Need-block-pool-requires Inv-loop μ-loop
 block-pool-requires c κs = search needs
 
 loop-holds : tie.Need-loop-holds Inv-loop μ-loop
-loop-holds c = (search needs, (refl, pooled-none _ _ _ _ (c .before .before .before .before .before .before .pre .0 .0)))
+loop-holds c = (search needs, (refl, pooled-none (c .before .before .before .before .before .before .args .distances .now) (c .before .before .before .before .before .before .args .at .now) (c .before .before .before .before .before .before .args .count) (c .before .before .before .before .before .before .args .cap) (c .before .before .before .before .before .before .pre .0 .0)))
 
 mul-t21 : tie.Need-mul-t21 Inv-loop μ-loop
 mul-t21 c = search needs
@@ -73,7 +72,7 @@ loop-again c =
       omega (arith, c .before .before .before .before .before .loop-test .taken),
       (
         m .kept .1 .0 ∙ k .loop .inv .1 .0,
-        join-step (z .args .distances .now) (z .args .start) (z .args .end) _ (b .block-pool .result) (z .pre .1 .1) (inside-room b) (b .block-pool .ensures .0) _ _ _ _ _ (k .loop .i) (k .loop .inv .1 .1) _ _ _ (c .before .before .before .before .before .loop-test .taken) (omega (arith, c .before .before .before .before .in-training .ensures)) (m .ensures),
+        join-step (z .args .distances .now) (z .args .start) (z .args .end) _ (b .block-pool .result) (z .pre .1 .1) (inside-room b) (b .block-pool .ensures .0) _ _ _ _ _ (k .loop .i) (k .loop .inv .1 .1) _ _ _ (c .before .before .before .before .before .loop-test .taken) (omega (arith, c .before .before .before .before .in-training .ensures)) (pooled-in (m .ensures)),
       ),
     )
 
@@ -85,7 +84,7 @@ returns c =
     let k = c .before in
     let b = c .before .before .before in
     let z = c .before .before .before .before .before .before .before .before in
-    join-end (z .args .distances .now) (z .args .start) (z .args .end) _ (b .block-pool .result) (z .pre .1 .1) (inside-room b) (b .block-pool .ensures .0) _ _ _ _ _ (k .loop .i) (k .loop .inv .1 .1) (omega (arith, k .loop .inv .0, c .loop-test .left))
+    pooled-out (join-end (z .args .distances .now) (z .args .start) (z .args .end) _ (b .block-pool .result) (z .pre .1 .1) (inside-room b) (b .block-pool .ensures .0) _ _ _ _ _ (k .loop .i) (k .loop .inv .1 .1) (omega (arith, k .loop .inv .0, c .loop-test .left)))
 
 pub join-block-spec : {M : Type 1} → statement M
 join-block-spec =

@@ -2,7 +2,8 @@ use native.Mathlib.Nat.{div-le-self}
 use Rattle.parts.proofs.Rounds.{Balancing, balanced-done, reach-start, reach-on, reach-off, reach-end, moved-total, size-test, giver-has, giver-other, share-of}
 use Rattle.parts.proofs.Seeks.{Seeking, seeking-start, seeking-on, seeking-found, seeking-none}
 use Rattle.parts.specs.Inside.{total}
-use Rattle.parts.specs.Balance.{allowed, allowance}
+use Rattle.parts.specs.Balance.{allowed}
+use Rattle.parts.proofs.Allowances.{allowance}
 use mathlib.Core.List.{List}
 use Rattle.sums.specs.Rows.{Row, rowsFrom}
 use borrow.Author.Tests.{lt-ltb, le-ltb}

@@ -3,8 +3,8 @@ use mathlib.Core.Path.{_≡_, refl, sym, ap, _∙_}
 use mathlib.Core.Bool.{true, _&&_}
 use lib.ListN.{length}
 use lib.Ieee.{binary32, ofBits}
-use Rattle.replay.specs.Replay.{kmeansAgrees, wholeWords}
-use Rattle.replay.proofs.Agreeing.{Fourfold, all-fourfold, room}
+use Rattle.replay.specs.Replay.{kmeansAgrees}
+use Rattle.replay.proofs.Agreeing.{wholeWords, Fourfold, all-fourfold, room}
 use borrow.Author.Tests.{not-true, not-false}
 use borrow.Author.Needs.{needs}
 use Rattle.replay.proofs.cases.kmeans_agrees.Statement.{statement}

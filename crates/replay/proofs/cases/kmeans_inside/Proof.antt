@@ -80,7 +80,7 @@ unfolding kmeansAgreesOf
 returns c =
     let z = c .before .before .before .before .before .before .before .before .before .before .before .before .before .before .before .before .before .before .before .before .before .before .before .before .before .before .before .before .before .before .before .before .before .before .before .before .before .before .before .before .before .before .before .before .before .before .before .before .before .before .before .before .before .before .before .before .before .before .before .before .before .before in
     let k = c .before .before .before .before .before .before .before .before .before .before .before .before .before .before .before .before .before .before .before .families-kmeans in
-    kmeans-agreed _ (z .args .head .now) (z .args .labels .now) (z .args .centroids .now) (length (z .args .l .now)) (length (z .args .c .now)) (k .result) _ _ _ _ _ (c .kmeans-told .ensures)
+    kmeans-agreed _ (z .args .head .now) (z .args .labels .now) (z .args .centroids .now) (length (z .args .l .now)) (length (z .args .c .now)) (k .result) _ _ _ _ _ (c .kmeans-told .ensures) (k .kept .1 .1 .1 .1 .1 .1 .1 .1 .1 .0) (k .kept .1 .1 .1 .1 .1 .1 .1 .1 .1 .1 .0)
     (kmeans-read (z .args .head .now) (z .args .draws .now) (z .args .values .now) (length (z .args .d .now)) (length (z .args .v .now)) (length (z .args .l .now)) (length (z .args .c .now)) _ _ _ _ _ _ _ _ _ _ _ _ _ _ _ _ _ _ _ _
     (c .before .before .before .before .before .before .before .before .before .before .before .before .before .before .before .before .before .before .before .before .before .before .before .before .before .before .before .before .before .before .before .before .before .before .before .before .before .before .u32-at .ensures)
     (c .before .before .before .before .before .before .before .before .before .before .before .before .before .before .before .before .before .before .before .before .before .before .before .before .before .before .before .before .before .before .before .before .before .before .before .before .before .u32-at2 .ensures)

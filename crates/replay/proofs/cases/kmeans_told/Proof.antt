@@ -1,4 +1,3 @@
-use Rattle.replay.specs.Replay.{kmeansSame}
 use borrow.Author.Needs.{needs}
 use Rattle.replay.proofs.cases.kmeans_told.Statement.{statement}
 use Rattle.replay.proofs.cases.kmeans_told.Tie as tie
@@ -43,7 +42,6 @@ both-requires-4 : tie.Need-both-requires-4
 both-requires-4 c κs = search needs
 
 returns : tie.Need-returns
-unfolding kmeansSame
 returns c =
     rw (c .both4 .ensures, c .before .floats .ensures, c .before .before .both3 .ensures, c .before .before .before .cells .ensures, c .before .before .before .before .both2 .ensures, c .before .before .before .before .before .long-numbers .ensures, c .before .before .before .before .before .before .stored-objective .ensures, c .before .before .before .before .before .before .before .double-bits-of .ensures, c .before .before .before .before .before .before .before .before .both .ensures, c .before .before .before .before .before .before .before .before .before .numbers2 .ensures, c .before .before .before .before .before .before .before .before .before .before .u32-at2 .ensures, c .before .before .before .before .before .before .before .before .before .before .before .numbers .ensures, c .before .before .before .before .before .before .before .before .before .before .before .before .u32-at .ensures)
 

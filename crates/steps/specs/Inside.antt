@@ -1,0 +1,23 @@
+-- What the functions inside say of their slices.
+use mathlib.Core.Path.{_≡_}
+use mathlib.Core.List.{List, [], _∷_}
+use Prim.Native.Nat.{ℕ, _*_, _≤_, _<_}
+use lib.ListN.{length, getD}
+use lib.Ieee.{Float}
+use Rattle.sums.specs.Cells.{Below}
+
+-- the values of a row, the clusters and the rows are within 01's ranges
+abbrev pub Limits : ℕ → ℕ → ℕ → Type 0
+Limits dim k rows = ((0 < dim) × (dim ≤ 64)) × (((0 < k) × (k ≤ 64)) × (rows ≤ 4096))
+
+-- the lengths that an iteration works in: training rows, their norms, centroids, distances
+abbrev pub roomOf : ℕ → ℕ → ℕ → List ℕ
+roomOf dim rows k = rows * dim ∷ rows ∷ k * dim ∷ rows ∷ []
+
+-- what empty clusters are filled from: training rows, and some of their positions in the pool
+abbrev pub Sources : List Float → ℕ → ℕ → List ℕ → Type 0
+Sources training dim rows pool = (length training ≡ rows * dim) × (((0 < rows) × (rows ≤ 65536)) × Below rows pool)
+
+-- no cluster is empty
+abbrev pub Filled : List ℕ → Type 0
+Filled counts = (i : ℕ) → i < length counts → 0 < getD counts i 0
