@@ -5,10 +5,12 @@ use mathlib.Core.Bool.{Bool, true, false, false≢true}
 use mathlib.Core.List.{List, [], _∷_}
 use native.Mathlib.Nat.{not-suc-le-zero, zero-lt-suc}
 use native.Mathlib.Omega.{arith}
-use borrow.Author.Tests.{ltb-true}
-use lib.Dec.{ltb}
+use borrow.Author.Tests.{ltb-true, eqb-true, eq-eqb}
+use lib.Dec.{eqb, ltb}
 use lib.Ieee.{Float}
-use lib.ListN.{length, getD, take, replicate}
+use lib.ListN.{length, getD, take, drop, replicate, drop-of-length-le}
+use lib.Seq.{drop-cons}
+use native.Mathlib.Numerals.{add-one}
 use Rattle.sums.specs.declared.draws.Cursor.{Cursor}
 use Rattle.sums.specs.Rows.{Row}
 use Rattle.sums.specs.Draws.{cursorAt, Drawn}
@@ -16,11 +18,12 @@ use Rattle.sums.specs.Cells.{Below}
 use Rattle.labels.specs.declared.nearest.Nearest.{Nearest}
 use Rattle.labels.specs.Label.{nearests, labelsOf}
 use Rattle.labels.specs.Pool.{pool}
-use Rattle.sums.proofs.Refusing.{same-is}
+use Rattle.sums.specs.Sums.{zeroRow}
+use Rattle.sums.proofs.Refusing.{same-is, both}
 use Rattle.labels.proofs.Assigns.{Assigned}
 use Rattle.steps.specs.declared.lloyd.Iterated.{Iterated}
-use Rattle.steps.specs.Steps.{Fit, update, iterate, updateFrom, drawsAfter, countsFrom, timesInverse}
-use Rattle.steps.specs.Inside.{Filled}
+use Rattle.steps.specs.Steps.{Fit, update, iterate, updateFrom, drawsAfter, countsFrom, sumsFrom, timesInverse}
+use Rattle.steps.specs.Inside.{Filled, repeats}
 use Rattle.steps.proofs.Summing.{Summed}
 use Rattle.steps.proofs.Updates.{Updated}
 
@@ -59,14 +62,51 @@ filled-after n pool [] h = refl
 filled-after n pool (suc c ∷ counts) h = filled-after n pool counts (λ i l. h (suc i) (suc-le-suc l))
 filled-after n pool (zero ∷ counts) h = absurd (not-suc-le-zero (h 0 (zero-lt-suc (length counts))))
 
-module _ (draws : List ℕ) (k dim block : ℕ) (training : List Row) where
-  -- an iteration that gives the labels of the one before, with no cluster empty, gives its centroids again, and draws nothing
-  pub settles : (n m : ℕ) (found before : List Nearest) → labelsOf found ≡ labelsOf before → Filled (countsFrom (replicate k 0) (labelsOf found))
-      → (update draws k dim block training n found .centroids ≡ update draws k dim block training m before .centroids) × (update draws k dim block training n found .made ≡ n)
-  unfolding update
-  settles n m found before e h = (rw (← e) (filled-update draws training n m _ _ (countsFrom (replicate k 0) (labelsOf found)) _ h), filled-after n _ _ h)
+-- ---- the turns of `refills_repeat`: a cluster more, filled or empty
+head-filled : (c : ℕ) (counts new old : List ℕ) → 0 < c → repeats counts new old ≡ true → repeats (c ∷ counts) new old ≡ true
+unfolding repeats
+head-filled zero counts new old h r = absurd (not-suc-le-zero h)
+head-filled (suc c) counts new old h r = r
 
-  -- and then so do all the iterations left
+head-empty : (p q : ℕ) (counts new old : List ℕ) → p ≡ q → repeats counts new old ≡ true → repeats (0 ∷ counts) (p ∷ new) (q ∷ old) ≡ true
+unfolding repeats
+head-empty p q counts new old e r = rw (eq-eqb p q e) r
+
+module _ (counts new old : List ℕ) (i used : ℕ) (l : i < length counts) where
+  pub repeats-filled : 0 < getD counts i 0 → repeats (drop (i + 1) counts) (drop used new) (drop used old) ≡ true → repeats (drop i counts) (drop used new) (drop used old) ≡ true
+  repeats-filled h r = rw (drop-cons counts i 0 l) (head-filled (getD counts i 0) _ _ _ h (rw (add-one i) at r))
+
+  pub repeats-empty : getD counts i 0 ≡ 0 → used < length new → used < length old → getD new used 0 ≡ getD old used 0
+      → repeats (drop (i + 1) counts) (drop (used + 1) new) (drop (used + 1) old) ≡ true → repeats (drop i counts) (drop used new) (drop used old) ≡ true
+  repeats-empty z ln lo e r = rw (drop-cons counts i 0 l, z, drop-cons new used 0 ln, drop-cons old used 0 lo) (head-empty _ _ _ _ _ e (rw (add-one i, add-one used) at r))
+
+pub repeats-end : (counts new old : List ℕ) (i : ℕ) → length counts ≤ i → repeats (drop i counts) new old ≡ true
+unfolding repeats
+repeats-end counts new old i l = rw (drop-of-length-le counts {i = i} l)
+
+-- ---- where every empty cluster finds the same position in both pools, the refills are the same, and nothing is drawn
+pub settles : (draws : List ℕ) (training : List Row) (n m : ℕ) (new old counts : List ℕ) (sums : List Row) → repeats counts new old ≡ true
+    → updateFrom draws training n new counts sums ≡ updateFrom draws training m old counts sums
+unfolding updateFrom repeats
+settles draws training n m new old [] sums h = refl
+settles draws training n m new old (c ∷ counts) [] h = refl
+settles draws training n m new old (suc c ∷ counts) (s ∷ sums) h = ap (λ (l : List Row). timesInverse (suc c) s ∷ l) (settles draws training n m new old counts sums h)
+settles draws training n m [] old (zero ∷ counts) (s ∷ sums) h = absurd (false≢true h)
+settles draws training n m (p ∷ new) [] (zero ∷ counts) (s ∷ sums) h = absurd (false≢true h)
+settles draws training n m (p ∷ new) (q ∷ old) (zero ∷ counts) (s ∷ sums) h =
+    let b = both _ _ h in
+    rw (eqb-true p q (b .0)) (ap (λ (l : List Row). getD training q [] ∷ l) (settles draws training n m new old counts sums (b .1)))
+
+settles-undrawn : (n : ℕ) (new old counts : List ℕ) → repeats counts new old ≡ true → drawsAfter n new counts ≡ n
+unfolding drawsAfter repeats
+settles-undrawn n new old [] h = refl
+settles-undrawn n new old (suc c ∷ counts) h = settles-undrawn n new old counts h
+settles-undrawn n [] old (zero ∷ counts) h = absurd (false≢true h)
+settles-undrawn n (p ∷ new) [] (zero ∷ counts) h = absurd (false≢true h)
+settles-undrawn n (p ∷ new) (q ∷ old) (zero ∷ counts) h = settles-undrawn n new old counts (both (eqb p q) (repeats counts new old) h .1)
+
+module _ (draws : List ℕ) (k dim block : ℕ) (training : List Row) where
+  -- an iteration that changes nothing: nor do all the iterations left
   pub fixed : (left : ℕ) (fit : Fit) → update draws k dim block training (fit .made) (nearests (fit .centroids) training) ≡ fit → iterate draws k dim block training left fit ≡ fit
   unfolding iterate
   fixed zero fit e = refl
@@ -78,27 +118,24 @@ module _ (draws : List ℕ) (k dim block : ℕ) (training : List Row) where
 abbrev pub PoolFor : Bool → List Float → ℕ → ℕ → ℕ → List ℕ → Type 0
 PoolFor filled distances block cap r at = ((r ≤ length at) × Below (length distances) (take r at)) × (filled ≡ false → take r at ≡ take cap (pool block distances))
 
--- the labels are found; then the update is made, or everything stays
-abbrev pub Iteration : List ℕ → ℕ → ℕ → ℕ → List Row → List Row → List Row → List ℕ → List ℕ → Bool → Cursor → Iterated → Type 0
-Iteration draws k dim block training centroids₀ centroids labels₀ labels again cursor r =
-    let after : ℕ → Fit = λ n. update draws k dim block training n (nearests centroids₀ training) in
-    (labels ≡ labelsOf (nearests centroids₀ training))
-    × ((r .settled ≡ false → Drawn draws cursor (r .cursor) centroids (λ n. after n .centroids) (λ n. after n .made))
-    × ((r .settled ≡ true → (again ≡ true) × ((labels ≡ labels₀) × Filled (countsFrom (replicate k 0) labels)))
-    × (r .settled ≡ true → (centroids ≡ centroids₀) × (r .cursor ≡ cursor))))
+-- the labels are found, and the update is by the positions at hand; then it is made, or everything stays
+abbrev pub Iteration : List ℕ → ℕ → ℕ → ℕ → List Row → List Row → List Row → List ℕ → List ℕ → List ℕ → List ℕ → ℕ → Bool → Cursor → Iterated → Type 0
+Iteration draws k dim block training centroids₀ centroids labels₀ labels at₀ at held again cursor r =
+    let found : List Nearest = nearests centroids₀ training in
+    let counts : List ℕ = countsFrom (replicate k 0) labels in
+    let sums : List Row = sumsFrom (replicate k (zeroRow dim)) labels training in
+    let hand : List ℕ = take (r .held) at in
+    ((labels ≡ labelsOf found) × (r .held ≤ length at))
+    × (((n : ℕ) → update draws k dim block training n found ≡ record { centroids = updateFrom draws training n hand counts sums; made = drawsAfter n hand counts })
+    × ((r .settled ≡ false → Drawn draws cursor (r .cursor) centroids (λ n. updateFrom draws training n hand counts sums) (λ n. drawsAfter n hand counts))
+    × ((r .settled ≡ true → (again ≡ true) × ((labels ≡ labels₀) × (repeats counts hand (take held at₀) ≡ true)))
+    × (r .settled ≡ true → (centroids ≡ centroids₀) × (r .cursor ≡ cursor)))))
+
+same-fit : (f : Fit) (c : List Row) (n : ℕ) → f .centroids ≡ c → f .made ≡ n → f ≡ record { centroids = c; made = n }
+same-fit f c n p q = rw (← p, ← q)
 
 module _ (draws : List ℕ) (k dim block : ℕ) (training centroids : List Row) (labels₀ labels : List ℕ) (distances : List Float) (same : Bool) (counts : List ℕ) (totals : List Row)
     (a : Assigned centroids training labels₀ labels distances same) (s : Summed dim k labels training counts totals) (again : Bool) (cursor : Cursor) where
-  pub iteration-stops : (again ≡ true) × ((same ≡ true) × Filled counts)
-      → Iteration draws k dim block training centroids centroids labels₀ labels again cursor (record { settled = true; cursor = cursor })
-  iteration-stops h = (
-    a .0,
-    (
-      λ e. absurd (false≢true (sym e)),
-      (λ e. (h .0, (sym (same-is labels₀ labels (sym (a .1 .1) ∙ h .1 .0)), rw (s .0) at (h .1 .1))), λ e. (refl, refl)),
-    ),
-  )
-
   -- the positions at hand serve as the whole pool does: they are its first, or no cluster is empty
   pool-serves : (filled : Bool) (cap r : ℕ) (at : List ℕ) → (filled ≡ true → Filled counts) → PoolFor filled distances block cap r at → length counts ≤ cap → (n : ℕ)
       → (updateFrom draws training n (take r at) counts totals ≡ updateFrom draws training n (pool block distances) counts totals) × (drawsAfter n (take r at) counts ≡ drawsAfter n (pool block distances) counts)
@@ -108,38 +145,46 @@ module _ (draws : List ℕ) (k dim block : ℕ) (training centroids : List Row) 
   )
   pool-serves false cap r at f p l n = rw (p .1 refl) (update-cut draws training n cap (pool block distances) counts totals l, after-cut n cap (pool block distances) counts l)
 
-  pub iteration-goes : (filled : Bool) (used : ℕ) (at : List ℕ) (centroids' : List Row) (r : Cursor) → (filled ≡ true → Filled counts) → PoolFor filled distances block k used at → length counts ≡ k
-      → Updated draws training (take used at) counts totals cursor r centroids' → Iteration draws k dim block training centroids centroids' labels₀ labels again cursor (record { settled = false; cursor = r })
-  unfolding update
-  iteration-goes filled used at centroids' r f p l u = (
-    a .0,
-    (
-      λ z. record {
-        inside = u .inside;
-        steps = λ n q.
-            let serves = pool-serves filled k used at f p (omega arith) n in (
-              u .steps n q .0 ∙ (serves .0 ∙ rw (s .0, s .1, a .0, a .1 .0)),
-              u .steps n q .1 ∙ ap (λ (m : ℕ). cursorAt draws m) (serves .1 ∙ rw (s .0, a .0, a .1 .0)),
-            );
-      },
-      (λ z. absurd (false≢true z), λ z. absurd (false≢true z)),
-    ),
-  )
+  module _ (filled : Bool) (used held : ℕ) (at₀ at : List ℕ) (f : filled ≡ true → Filled counts) (p : PoolFor filled distances block k used at) (l : length counts ≡ k) where
+    -- so the update is by them
+    serves : (n : ℕ) → update draws k dim block training n (nearests centroids training)
+        ≡ record { centroids = updateFrom draws training n (take used at) (countsFrom (replicate k 0) labels) (sumsFrom (replicate k (zeroRow dim)) labels training); made = drawsAfter n (take used at) (countsFrom (replicate k 0) labels) }
+    unfolding update
+    serves n =
+        let v = pool-serves filled k used at f p (omega arith) n in
+        let x : updateFrom draws training n (take used at) counts totals ≡ update draws k dim block training n (nearests centroids training) .centroids = v .0 ∙ rw (s .0, s .1, a .0, a .1 .0) in
+        let y : drawsAfter n (take used at) counts ≡ update draws k dim block training n (nearests centroids training) .made = v .1 ∙ rw (s .0, a .0, a .1 .0) in
+        same-fit _ _ _ (sym (rw (s .0, s .1) at x)) (sym (rw (s .0) at y))
+
+    pub iteration-stops : (again ≡ true) × ((same ≡ true) × (repeats counts (take used at) (take held at₀) ≡ true))
+        → Iteration draws k dim block training centroids centroids labels₀ labels at₀ at held again cursor (record { settled = true; cursor = cursor; held = used })
+    iteration-stops h = (
+      (a .0, p .0 .0),
+      (
+        serves,
+        (
+          λ e. absurd (false≢true (sym e)),
+          (λ e. (h .0, (sym (same-is labels₀ labels (sym (a .1 .1) ∙ h .1 .0)), rw (s .0) at (h .1 .1))), λ e. (refl, refl)),
+        ),
+      ),
+    )
+
+    pub iteration-goes : (centroids' : List Row) (r : Cursor) → Updated draws training (take used at) counts totals cursor r centroids'
+        → Iteration draws k dim block training centroids centroids' labels₀ labels at₀ at held again cursor (record { settled = false; cursor = r; held = used })
+    iteration-goes centroids' r u = ((a .0, p .0 .0), (serves, (λ z. rw (s .0, s .1) at u, (λ z. absurd (false≢true z), λ z. absurd (false≢true z)))))
 
 -- ---- the iterations in turn
 
 -- every slice is as long as it was
-pub record Lengths (centroids₀ : List Float) (labels₀ : List ℕ) (distances₀ : List Float) (counts₀ : List ℕ) (totals₀ : List Float) (at₀ : List ℕ)
-    (centroids : List Float) (labels : List ℕ) (distances : List Float) (counts : List ℕ) (totals : List Float) (at : List ℕ) : Type 0 where
+pub record Lengths (centroids₀ : List Float) (labels₀ : List ℕ) (distances₀ : List Float) (counts₀ : List ℕ) (totals₀ : List Float) (at₀ prior₀ : List ℕ)
+    (centroids : List Float) (labels : List ℕ) (distances : List Float) (counts : List ℕ) (totals : List Float) (at prior : List ℕ) : Type 0 where
   pub l-centroids : length centroids ≡ length centroids₀
   pub l-labels : length labels ≡ length labels₀
   pub l-distances : length distances ≡ length distances₀
   pub l-counts : length counts ≡ length counts₀
   pub l-totals : length totals ≡ length totals₀
   pub l-at : length at ≡ length at₀
-
-same-fit : (f : Fit) (c : List Row) (n : ℕ) → f .centroids ≡ c → f .made ≡ n → f ≡ record { centroids = c; made = n }
-same-fit f c n p q = rw (← p, ← q)
+  pub l-prior : length prior ≡ length prior₀
 
 -- all the iterations asked for, from centroids and a cursor
 abbrev pub Fitted : List ℕ → ℕ → ℕ → ℕ → List Row → ℕ → List Row → Cursor → List Row → Cursor → Type 0
@@ -148,62 +193,67 @@ Fitted draws k dim block training left centroids₀ cursor centroids r =
     Drawn draws cursor r centroids (λ n. after n .centroids) (λ n. after n .made)
 
 module _ (draws : List ℕ) (k dim block : ℕ) (training : List Row) (total : ℕ) (centroids₀ : List Row) (c₀ : Cursor) where
-  -- the centroids are what an iteration with these labels gave
-  pub record Prior (centroids : List Row) (labels : List ℕ) : Type 0 where
-    pub found : List Nearest
+  -- the centroids are what an update with these labels and positions gave
+  pub record Prior (centroids : List Row) (labels at : List ℕ) (held : ℕ) : Type 0 where
     pub after : ℕ
-    pub were : labels ≡ labelsOf found
-    pub gave : centroids ≡ update draws k dim block training after found .centroids
+    pub gave : centroids ≡ updateFrom draws training after (take held at) (countsFrom (replicate k 0) labels) (sumsFrom (replicate k (zeroRow dim)) labels training)
 
-  pub record Left (n : ℕ) (centroids : List Row) (labels : List ℕ) (cursor : Cursor) (i : ℕ) : Type 0 where
+  pub record Left (n : ℕ) (centroids : List Row) (labels at : List ℕ) (held : ℕ) (cursor : Cursor) (i : ℕ) : Type 0 where
     pub made : ℕ
     pub place : cursor ≡ cursorAt draws made
     pub done : iterate draws k dim block training (total - i) (record { centroids = centroids; made = made }) ≡ iterate draws k dim block training total (record { centroids = centroids₀; made = n })
-    pub prior : 0 < i → Prior centroids labels
+    pub prior : 0 < i → Prior centroids labels at held
 
-  pub record Running (centroids : List Row) (labels : List ℕ) (cursor : Cursor) (i : ℕ) : Type 0 where
+  pub record Running (centroids : List Row) (labels at : List ℕ) (held : ℕ) (cursor : Cursor) (i : ℕ) : Type 0 where
     pub within : i ≤ total
     pub inside : cursor .at < length draws
-    pub left : (n : ℕ) → c₀ ≡ cursorAt draws n → Left n centroids labels cursor i
+    pub fits : held ≤ length at
+    pub left : (n : ℕ) → c₀ ≡ cursorAt draws n → Left n centroids labels at held cursor i
 
-  pub running-start : (labels : List ℕ) → c₀ .at < length draws → Running centroids₀ labels c₀ 0
-  running-start labels h = record {
+  pub running-start : (labels at : List ℕ) → c₀ .at < length draws → Running centroids₀ labels at 0 c₀ 0
+  running-start labels at h = record {
     within = omega arith;
     inside = h;
+    fits = omega arith;
     left = λ n p. let z : total - 0 ≡ total = omega arith in record { made = n; place = p; done = rw z; prior = λ l. absurd (not-suc-le-zero l) };
   }
 
-  module _ {centroids : List Row} {labels : List ℕ} {cursor : Cursor} {i : ℕ} (h : Running centroids labels cursor i) where
-    pub running-step : (centroids' : List Row) (labels' : List ℕ) (r : Iterated) (again : Bool) → i < total
-        → Iteration draws k dim block training centroids centroids' labels labels' again cursor r → r .settled ≡ false → Running centroids' labels' (r .cursor) (i + 1)
+  module _ {centroids : List Row} {labels at : List ℕ} {held : ℕ} {cursor : Cursor} {i : ℕ} (h : Running centroids labels at held cursor i) where
+    pub running-step : (centroids' : List Row) (labels' at' : List ℕ) (r : Iterated) (again : Bool) → i < total
+        → Iteration draws k dim block training centroids centroids' labels labels' at at' held again cursor r → r .settled ≡ false → Running centroids' labels' at' (r .held) (r .cursor) (i + 1)
     unfolding iterate
-    running-step centroids' labels' r again l t e = record {
+    running-step centroids' labels' at' r again l t e = record {
       within = omega arith;
-      inside = t .1 .0 e .inside;
+      inside = t .1 .1 .0 e .inside;
+      fits = t .0 .1;
       left = λ n p.
           let old = h .left n p in
-          let w = t .1 .0 e .steps (old .made) (old .place) in
+          let w = t .1 .1 .0 e .steps (old .made) (old .place) in
           let z : total - i ≡ suc (total - (i + 1)) = omega arith in
+          let d : iterate draws k dim block training (total - (i + 1)) (update draws k dim block training (old .made) (nearests centroids training)) ≡ iterate draws k dim block training total (record { centroids = centroids₀; made = n })
+          = rw z at (old .done) in
           record {
-            made = update draws k dim block training (old .made) (nearests centroids training) .made;
+            made = drawsAfter (old .made) (take (r .held) at') (countsFrom (replicate k 0) labels');
             place = w .1;
-            done = rw (w .0) (rw z at (old .done));
-            prior = λ q. record { found = nearests centroids training; after = old .made; were = t .0; gave = w .0 };
+            done = rw (w .0) (rw (t .1 .0 (old .made)) at d);
+            prior = λ q. record { after = old .made; gave = w .0 };
           };
     }
 
-    pub running-stop : (centroids' : List Row) (labels' : List ℕ) (r : Iterated) → i < total
-        → Iteration draws k dim block training centroids centroids' labels labels' (ltb 0 i) cursor r → r .settled ≡ true → Fitted draws k dim block training total centroids₀ c₀ centroids' (r .cursor)
-    running-stop centroids' labels' r l t e = record {
-      inside = rw (t .1 .1 .1 e .1) (h .inside);
+    pub running-stop : (centroids' : List Row) (labels' at' : List ℕ) (r : Iterated) → i < total
+        → Iteration draws k dim block training centroids centroids' labels labels' at at' held (ltb 0 i) cursor r → r .settled ≡ true → Fitted draws k dim block training total centroids₀ c₀ centroids' (r .cursor)
+    running-stop centroids' labels' at' r l t e = record {
+      inside = rw (t .1 .1 .1 .1 e .1) (h .inside);
       steps = λ n p.
           let old = h .left n p in
-          let s = t .1 .1 .0 e in
-          let o = t .1 .1 .1 e in
+          let s = t .1 .1 .1 .0 e in
+          let o = t .1 .1 .1 .1 e in
           let q = old .prior (ltb-true 0 i (s .0)) in
-          let g = settles draws k dim block training (old .made) (q .after) (nearests centroids training) (q .found) (sym (t .0) ∙ (s .1 .0 ∙ q .were)) (rw (t .0) at (s .1 .1)) in
+          let counts : List ℕ = countsFrom (replicate k 0) labels' in
+          let sums : List Row = sumsFrom (replicate k (zeroRow dim)) labels' training in
+          let g = settles draws training (old .made) (q .after) (take (r .held) at') (take held at) counts sums (s .1 .1) in
           let f : update draws k dim block training (old .made) (nearests centroids training) ≡ record { centroids = centroids; made = old .made }
-          = same-fit _ _ _ (g .0 ∙ sym (q .gave)) (g .1) in
+          = t .1 .0 (old .made) ∙ same-fit _ _ _ (g ∙ sym (rw (← s .1 .0) at (q .gave))) (settles-undrawn (old .made) (take (r .held) at') (take held at) counts (s .1 .1)) in
           let x = sym (fixed draws k dim block training (total - i) (record { centroids = centroids; made = old .made }) f) ∙ old .done in
           (o .0 ∙ ap (λ (y : Fit). y .centroids) x, o .1 ∙ (old .place ∙ ap (λ (y : Fit). cursorAt draws (y .made)) x));
     }

@@ -1,7 +1,9 @@
 -- What the functions inside say of their slices.
 use mathlib.Core.Path.{_≡_}
+use mathlib.Core.Bool.{Bool, true, false, _&&_}
 use mathlib.Core.List.{List, [], _∷_}
-use Prim.Native.Nat.{ℕ, _*_, _≤_, _<_}
+use Prim.Native.Nat.{ℕ, zero, suc, _*_, _≤_, _<_}
+use lib.Dec.{eqb}
 use lib.ListN.{length, getD}
 use lib.Ieee.{Float}
 use Rattle.sums.specs.Cells.{Below}
@@ -21,3 +23,11 @@ Sources training dim rows pool = (length training ≡ rows * dim) × (((0 < rows
 -- no cluster is empty
 abbrev pub Filled : List ℕ → Type 0
 Filled counts = (i : ℕ) → i < length counts → 0 < getD counts i 0
+
+-- every empty cluster finds a position in both lists, one after the other, and the same in both: then refills need no draw, and are the same
+unfoldable pub repeats : List ℕ → List ℕ → List ℕ → Bool
+repeats [] new old = true
+repeats (suc c ∷ counts) new old = repeats counts new old
+repeats (zero ∷ counts) [] old = false
+repeats (zero ∷ counts) (p ∷ new) [] = false
+repeats (zero ∷ counts) (p ∷ new) (q ∷ old) = eqb p q && repeats counts new old

@@ -2,7 +2,7 @@
 ghost use mathlib.Core.Path.{_≡_};
 ghost use mathlib.Core.Bool.{true, false, _&&_};
 ghost use mathlib.Core.List.{[], _∷_};
-ghost use Prim.Native.Nat.{_*_, _≤_, _<_};
+ghost use Prim.Native.Nat.{ℕ, _*_, _≤_, _<_};
 ghost use lib.ListN.{length, take, replicate};
 ghost use Rattle.sums.specs.Rows.{rowsFrom};
 ghost use Rattle.sums.specs.Cells.{Below};
@@ -11,8 +11,8 @@ ghost use Rattle.sums.specs.Draws.{Drawn};
 ghost use Rattle.labels.specs.Label.{nearests, labelsOf};
 ghost use Rattle.labels.specs.Pool.{pool as Pool·pool};
 ghost use Rattle.labels.specs.Inside.{normsOf};
-ghost use Rattle.steps.specs.Steps.{countsFrom, sumsFrom, update as Steps·update, iterate};
-ghost use Rattle.steps.specs.Inside.{Limits, Filled, roomOf};
+ghost use Rattle.steps.specs.Steps.{countsFrom, sumsFrom, updateFrom, drawsAfter, update as Steps·update, iterate};
+ghost use Rattle.steps.specs.Inside.{Limits, Filled, repeats, roomOf};
 use crate::update;
 use labels::nearest;
 use labels::pool;
@@ -55,18 +55,44 @@ fn all_filled(counts: &[u16]) -> bool
     true
 }
 
+// Empty clusters would be filled as before, by the positions in front of both lists and by no draw.
+fn refills_repeat(counts: &[u16], new: &[u16], old: &[u16]) -> bool
+    ensures { λ r. ⌜ (r ≡ true → repeats (now (counts .entry)) (now (new .entry)) (now (old .entry)) ≡ true) ⌝ }
+{
+    let mut used = 0usize;
+    let mut i = 0usize;
+    while i < counts.len() {
+        if counts[i] == 0 {
+            if new.len() <= used {
+                return false;
+            }
+            if old.len() <= used {
+                return false;
+            }
+            if new[used] != old[used] {
+                return false;
+            }
+            used += 1;
+        }
+        i += 1;
+    }
+    true
+}
+
+// How many positions are at hand now.
 pub struct Iterated {
     pub settled: bool,
     pub cursor: Cursor,
+    pub held: usize,
 }
 
-// Nothing more would change: the labels are those of the iteration before, and no cluster is empty.
-fn is_settled(again: bool, same: bool, filled: bool) -> bool
-    ensures { λ r. ⌜ r ≡ (again && same && filled) ⌝ }
+// Nothing more would change: the labels are those of the iteration before, and so are the refills.
+fn is_settled(again: bool, same: bool, repeated: bool) -> bool
+    ensures { λ r. ⌜ r ≡ (again && same && repeated) ⌝ }
 {
     if again {
         if same {
-            return filled;
+            return repeated;
         }
     }
     false
@@ -85,7 +111,7 @@ fn pool_for(filled: bool, distances: &[f32], block: usize, at: &mut [u16]) -> us
     pool::gather_pool(distances, block, at, cap)
 }
 
-// One iteration; where it would change nothing, it stops before the update.
+// One iteration; where it would change nothing, it stops before the update. `held` positions were at hand in the one before.
 fn run_iteration(
     training: &[f32],
     own: &[f32],
@@ -94,34 +120,40 @@ fn run_iteration(
     draws: &[u32],
     cursor: Cursor,
     again: bool,
+    held: usize,
     centroids: &mut [f32],
     labels: &mut [u16],
     distances: &mut [f32],
     counts: &mut [u16],
     totals: &mut [f32],
     at: &mut [u16],
+    prior: &mut [u16],
 ) -> Iterated
     requires { ⌜ (Limits dim (length (now counts)) (length (now labels)) × ((0 < length (now labels)) × (0 < block))) × ((length (now training) ∷ length (now own) ∷ length (now centroids) ∷ length (now distances) ∷ []) ≡ roomOf dim (length (now labels)) (length (now counts))) ⌝ }
-    requires { ⌜ (length (now totals) ≡ length (now counts) * dim) × (length (now at) ≡ length (now counts)) ⌝ }
+    requires { ⌜ (length (now totals) ≡ length (now counts) * dim) × ((length (now at) ≡ length (now counts)) × ((length (now prior) ≡ length (now counts)) × (held ≤ length (now at)))) ⌝ }
     requires { ⌜ now own ≡ normsOf (rowsFrom dim (length (now labels)) (now training)) ⌝ }
     requires { ⌜ cursor .at < length (now draws) ⌝ }
-    ensures { λ r. ⌜ now (labels .exit) ≡ labelsOf (nearests (rowsFrom dim (length (now (counts .entry))) (now (centroids .entry))) (rowsFrom dim (length (now (labels .entry))) (now (training .entry)))) ⌝ }
-    ensures { λ r. ⌜ (r .settled ≡ false → Drawn (now (draws .entry)) cursor (r .cursor) (rowsFrom dim (length (now (counts .entry))) (now (centroids .exit))) (λ n. (Steps·update (now (draws .entry)) (length (now (counts .entry))) dim block (rowsFrom dim (length (now (labels .entry))) (now (training .entry))) n (nearests (rowsFrom dim (length (now (counts .entry))) (now (centroids .entry))) (rowsFrom dim (length (now (labels .entry))) (now (training .entry))))) .centroids) (λ n. (Steps·update (now (draws .entry)) (length (now (counts .entry))) dim block (rowsFrom dim (length (now (labels .entry))) (now (training .entry))) n (nearests (rowsFrom dim (length (now (counts .entry))) (now (centroids .entry))) (rowsFrom dim (length (now (labels .entry))) (now (training .entry))))) .made)) ⌝ }
-    ensures { λ r. ⌜ (r .settled ≡ true → (again ≡ true) × ((now (labels .exit) ≡ now (labels .entry)) × Filled (countsFrom (replicate (length (now (counts .entry))) 0) (now (labels .exit))))) ⌝ }
-    ensures { λ r. ⌜ (r .settled ≡ true → ((rowsFrom dim (length (now (counts .entry))) (now (centroids .exit))) ≡ (rowsFrom dim (length (now (counts .entry))) (now (centroids .entry)))) × (r .cursor ≡ cursor)) ⌝ }
+    ensures { λ r. ⌜ (now (labels .exit) ≡ labelsOf (nearests (rowsFrom dim (length (now (counts .entry))) (now (centroids .entry))) (rowsFrom dim (length (now (labels .entry))) (now (training .entry))))) × (r .held ≤ length (now (at .exit))) ⌝ }
+    ensures { λ r. ⌜ ((n : ℕ) → Steps·update (now (draws .entry)) (length (now (counts .entry))) dim block (rowsFrom dim (length (now (labels .entry))) (now (training .entry))) n (nearests (rowsFrom dim (length (now (counts .entry))) (now (centroids .entry))) (rowsFrom dim (length (now (labels .entry))) (now (training .entry)))) ≡ record { centroids = updateFrom (now (draws .entry)) (rowsFrom dim (length (now (labels .entry))) (now (training .entry))) n (take (r .held) (now (at .exit))) (countsFrom (replicate (length (now (counts .entry))) 0) (now (labels .exit))) (sumsFrom (replicate (length (now (counts .entry))) (zeroRow dim)) (now (labels .exit)) (rowsFrom dim (length (now (labels .entry))) (now (training .entry)))); made = drawsAfter n (take (r .held) (now (at .exit))) (countsFrom (replicate (length (now (counts .entry))) 0) (now (labels .exit))) }) ⌝ }
+    ensures { λ r. ⌜ (r .settled ≡ false → Drawn (now (draws .entry)) cursor (r .cursor) (rowsFrom dim (length (now (counts .entry))) (now (centroids .exit))) (λ n. updateFrom (now (draws .entry)) (rowsFrom dim (length (now (labels .entry))) (now (training .entry))) n (take (r .held) (now (at .exit))) (countsFrom (replicate (length (now (counts .entry))) 0) (now (labels .exit))) (sumsFrom (replicate (length (now (counts .entry))) (zeroRow dim)) (now (labels .exit)) (rowsFrom dim (length (now (labels .entry))) (now (training .entry))))) (λ n. drawsAfter n (take (r .held) (now (at .exit))) (countsFrom (replicate (length (now (counts .entry))) 0) (now (labels .exit))))) ⌝ }
+    ensures { λ r. ⌜ (r .settled ≡ true → (again ≡ true) × ((now (labels .exit) ≡ now (labels .entry)) × (repeats (countsFrom (replicate (length (now (counts .entry))) 0) (now (labels .exit))) (take (r .held) (now (at .exit))) (take held (now (at .entry))) ≡ true))) ⌝ }
+    ensures { λ r. ⌜ (r .settled ≡ true → (rowsFrom dim (length (now (counts .entry))) (now (centroids .exit)) ≡ (rowsFrom dim (length (now (counts .entry))) (now (centroids .entry)))) × (r .cursor ≡ cursor)) ⌝ }
 {
     let k = counts.len();
     let rows = labels.len();
     let same = nearest::assign_rows(training, own, dim, centroids, k, labels, distances);
     accumulate(training, dim, labels, counts, totals);
     let filled = all_filled(counts);
-    if is_settled(again, same, filled) {
+    cells::copy_cells(prior, at);
+    let n = pool_for(filled, distances, block, at);
+    let repeated = refills_repeat(counts, &at[..n], &prior[..held]);
+    if is_settled(again, same, repeated) {
         return Iterated {
             settled: true,
             cursor,
+            held: n,
         };
     }
-    let n = pool_for(filled, distances, block, at);
     let next = update::update_centroids(
         centroids,
         totals,
@@ -136,6 +168,7 @@ fn run_iteration(
     Iterated {
         settled: false,
         cursor: next,
+        held: n,
     }
 }
 
@@ -154,14 +187,16 @@ fn run_iterations(
     counts: &mut [u16],
     totals: &mut [f32],
     at: &mut [u16],
+    prior: &mut [u16],
 ) -> Cursor
     requires { ⌜ (Limits dim (length (now counts)) (length (now labels)) × ((0 < length (now labels)) × (0 < block))) × ((length (now training) ∷ length (now own) ∷ length (now centroids) ∷ length (now distances) ∷ []) ≡ roomOf dim (length (now labels)) (length (now counts))) ⌝ }
-    requires { ⌜ (length (now totals) ≡ length (now counts) * dim) × (length (now at) ≡ length (now counts)) ⌝ }
+    requires { ⌜ (length (now totals) ≡ length (now counts) * dim) × ((length (now at) ≡ length (now counts)) × (length (now prior) ≡ length (now counts))) ⌝ }
     requires { ⌜ now own ≡ normsOf (rowsFrom dim (length (now labels)) (now training)) ⌝ }
     requires { ⌜ cursor .at < length (now draws) ⌝ }
     ensures { λ r. ⌜ Drawn (now (draws .entry)) cursor r (rowsFrom dim (length (now (counts .entry))) (now (centroids .exit))) (λ n. (iterate (now (draws .entry)) (length (now (counts .entry))) dim block (rowsFrom dim (length (now (labels .entry))) (now (training .entry))) iterations (record { centroids = (rowsFrom dim (length (now (counts .entry))) (now (centroids .entry))); made = n })) .centroids) (λ n. (iterate (now (draws .entry)) (length (now (counts .entry))) dim block (rowsFrom dim (length (now (labels .entry))) (now (training .entry))) iterations (record { centroids = (rowsFrom dim (length (now (counts .entry))) (now (centroids .entry))); made = n })) .made) ⌝ }
 {
     let mut place = cursor;
+    let mut held = 0usize;
     let mut i = 0usize;
     while i < iterations {
         let step = run_iteration(
@@ -172,17 +207,20 @@ fn run_iterations(
             draws,
             place,
             0 < i,
+            held,
             centroids,
             labels,
             distances,
             counts,
             totals,
             at,
+            prior,
         );
         let next = step.cursor;
         if step.settled {
             return next;
         }
+        held = step.held;
         place = next;
         i += 1;
     }
@@ -212,6 +250,7 @@ pub fn run_lloyd_iterations(
     let mut counts = [0u16; 64];
     let mut totals = [0.0f32; 4096];
     let mut at = [0u16; 64];
+    let mut prior = [0u16; 64];
     run_iterations(
         iterations,
         training,
@@ -226,5 +265,6 @@ pub fn run_lloyd_iterations(
         &mut counts[..k],
         &mut totals[..width],
         &mut at[..k],
+        &mut prior[..k],
     )
 }

@@ -23,56 +23,51 @@ counts-lent z = length-take-le (z .args .k) (replicate 64 0) ((room-in (z .pre .
 width-lent : (z : tie.Start) → length (take (z .args .k * z .args .dim) (replicate 4096 (ofBits binary32 0))) ≡ z .args .k * z .args .dim
 width-lent z = length-take-le (z .args .k * z .args .dim) (replicate 4096 (ofBits binary32 0)) (width-fits z)
 
--- src/lloyd.rt:211:17
 mul-width : tie.Need-mul-width
 mul-width c = omega (arith, width-fits (c .before .before .before .before .before .before))
 
--- src/lloyd.rt:226:9
 array-borrow-prefix-counts : tie.Need-array-borrow-prefix-counts
 array-borrow-prefix-counts c = (room-in (c .before .before .before .before .before .before .before .before .before .pre .0)) .few
 
--- src/lloyd.rt:226:9
 slice-aggregate-run-iterations : tie.Need-slice-aggregate-run-iterations
 slice-aggregate-run-iterations c = sym (counts-lent (c .before .before .before .before .before .before .before .before .before .before))
 
--- src/lloyd.rt:227:9
 array-borrow-prefix-totals : tie.Need-array-borrow-prefix-totals
 array-borrow-prefix-totals c = width-fits (c .before .before .before .before .before .before .before .before .before .before)
 
--- src/lloyd.rt:227:9
 slice-aggregate-run-iterations-2 : tie.Need-slice-aggregate-run-iterations-2
 slice-aggregate-run-iterations-2 c = sym (width-lent (c .before .before .before .before .before .before .before .before .before .before .before))
 
--- src/lloyd.rt:228:9
 array-borrow-prefix-at : tie.Need-array-borrow-prefix-at
 array-borrow-prefix-at c = (room-in (c .before .before .before .before .before .before .before .before .before .before .before .pre .0)) .few
 
--- src/lloyd.rt:228:9
 slice-aggregate-run-iterations-3 : tie.Need-slice-aggregate-run-iterations-3
 slice-aggregate-run-iterations-3 c = sym (counts-lent (c .before .before .before .before .before .before .before .before .before .before .before .before))
 
--- src/lloyd.rt:215:5
+array-borrow-prefix-prior : tie.Need-array-borrow-prefix-prior
+array-borrow-prefix-prior c = (room-in (c .before .before .before .before .before .before .before .before .before .before .before .before .pre .0)) .few
+
+slice-aggregate-run-iterations-4 : tie.Need-slice-aggregate-run-iterations-4
+slice-aggregate-run-iterations-4 c = sym (counts-lent (c .before .before .before .before .before .before .before .before .before .before .before .before .before))
+
 run-iterations-requires : tie.Need-run-iterations-requires
 run-iterations-requires c κs =
-    let z = c .before .before .before .before .before .before .before .before .before .before .before .before in
+    let z = c .before .before .before .before .before .before .before .before .before .before .before .before .before in
+    let alike = counts-lent z ∙ sym (counts-lent z) in
     let wide = width-lent z ∙ ap (λ (n : ℕ). n * z .args .dim) (sym (counts-lent z)) in
-    (rw (counts-lent z) (z .pre .0), ((wide, counts-lent z ∙ sym (counts-lent z)), z .pre .1))
+    (rw (counts-lent z) (z .pre .0), ((wide, (alike, alike)), z .pre .1))
 
--- src/lloyd.rt:193:1
 same-length : tie.Need-same-length
 same-length c = search needs
 
--- src/lloyd.rt:193:1
 same-length-2 : tie.Need-same-length-2
 same-length-2 c = search needs
 
--- src/lloyd.rt:193:1
 same-length-3 : tie.Need-same-length-3
 same-length-3 c = search needs
 
--- src/lloyd.rt:193:1
 returns : tie.Need-returns
-returns c = rw (counts-lent (c .before .before .before .before .before .before .before .before .before .before .before .before .before .before .before .before .before .before .before .before .before .before)) at (c .before .before .before .before .before .before .before .before .before .run-iterations .ensures)
+returns c = rw (counts-lent (c .before .before .before .before .before .before .before .before .before .before .before .before .before .before .before .before .before .before .before .before .before .before .before .before)) at (c .before .before .before .before .before .before .before .before .before .before .run-iterations .ensures)
 
 pub run-lloyd-iterations-spec : {M : Type 1} → statement M
 run-lloyd-iterations-spec =
@@ -85,6 +80,8 @@ run-lloyd-iterations-spec =
     slice-aggregate-run-iterations-2
     array-borrow-prefix-at
     slice-aggregate-run-iterations-3
+    array-borrow-prefix-prior
+    slice-aggregate-run-iterations-4
     run-iterations-requires
     same-length
     same-length-2
