@@ -79,7 +79,7 @@ fn refills_repeat(counts: &[u16], new: &[u16], old: &[u16]) -> bool
     true
 }
 
-// How many positions are at hand now.
+// Whether nothing more would change, the place in the draws, and how many positions are at hand.
 pub struct Iterated {
     pub settled: bool,
     pub cursor: Cursor,

@@ -22,7 +22,7 @@ enum Rows {
     Clustered,
     /// Drawn from everywhere alike.
     Shapeless,
-    /// Eight rows again and again: only balancing parts them, and no k-means of theirs settles.
+    /// Eight rows again and again: only balancing parts equal ones, and nearly all of their clusters are empty.
     Repeating,
 }
 
