@@ -10,9 +10,8 @@ use lib.Seq.{take-suc, take-all, take-at, length-take-le}
 use lib.Ieee.{Float}
 use Rattle.sums.specs.Rows.{Row, rowsFrom}
 use Rattle.sums.specs.Refusals.{Answer, accepted, refused, lowestFrom, unless, onAccepted, padded, cellsOf, blankCell}
-use Rattle.sums.proofs.Tables.{length-tab}
 use Rattle.words.specs.Bytes.{floatsFrom, bytes16}
-use Rattle.words.proofs.ByteLaws.{floats-tab}
+use Rattle.words.proofs.ByteLaws.{floats-length}
 use Rattle.labels.specs.Label.{nearest, nearests}
 use Rattle.labels.specs.Call.{labelRefusal as rowsRefusal, labelCall as rowsCall, told, Gives as Labels}
 use Rattle.labels.specs.declared.label.LabelAnswer.{LabelAnswer}
@@ -21,13 +20,12 @@ use Rattle.closure.specs.Call.{closureCall, Gives}
 use Rattle.closure.specs.declared.ClosureAnswer.{ClosureAnswer}
 use Rattle.closure.specs.declared.ClosureAnswer.the-variants.{Listed, Refused}
 use Rattle.kmeans.specs.KMeans.{Result}
-use Rattle.kmeans.specs.Call.{Gives as KMeansGives}
+use Rattle.kmeans.specs.Call.{told as kmeansTold, Gives as KMeansGives}
 use Rattle.kmeans.specs.declared.call.KMeansAnswer.{KMeansAnswer}
-use Rattle.kmeans.specs.declared.call.KMeansAnswer.the-variants.{Accepted, Refused as KMeansAnswer·Refused}
-use Rattle.grouping.specs.Groups.{Groups, endsFrom, meanOf}
-use Rattle.grouping.specs.Call.{figures, Gives as GroupGives}
-use Rattle.grouping.specs.declared.call.GroupingAnswer.{GroupingAnswer}
-use Rattle.grouping.specs.declared.call.GroupingAnswer.the-variants.{Accepted as GroupingAnswer·Accepted, Refused as GroupingAnswer·Refused}
+use Rattle.splitting.specs.Groups.{Groups, endsFrom, meanOf}
+use Rattle.splitting.specs.Answers.{told as groupsTold, figures}
+use Rattle.splitting.specs.declared.waiting.GroupingAnswer.{GroupingAnswer}
+use Rattle.grouping.specs.Call.{Gives as GroupGives}
 use Rattle.sums.specs.Sums.{zero32}
 use Rattle.bench.specs.Exports.{codeOf, Gave, labelRefusal, labelOf, labelCall, closureRefusal, closureBytesCall, closureWritten, figureOf}
 use Rattle.sums.proofs.Fronts.{flat-append}
@@ -53,14 +51,21 @@ module _ (cells r r′ : List ℕ) (i : ℕ) (done : take (i * 2) r ≡ flatMap 
   cells-last n h k e = e ∙ rw (done, take-all i cells h, drop-of-length-le r {i = i * 2 + 2} k)
 
 -- ---- from an answer to its number and bytes
-same-code : {A B : Type 0} (f : A → B) (answer : Answer A) → codeOf (onAccepted f answer) ≡ codeOf answer
-unfolding onAccepted codeOf
-same-code f (accepted a) = refl
-same-code f (refused number) = refl
+-- an answer that tells less of an acceptance has the same number, and each of its figures is one of the whole
+module _ {A B : Type 0} (f : A → B) where
+  same-code : (answer : Answer A) (t : Answer B) → t ≡ onAccepted f answer → codeOf t ≡ codeOf answer
+  unfolding onAccepted codeOf
+  same-code (accepted a) t e = ap codeOf e
+  same-code (refused number) t e = ap codeOf e
+
+  same-figure : {C : Type 0} (blank : C) (figure : B → C) (answer : Answer A) (t : Answer B) → t ≡ onAccepted f answer → figureOf blank figure t ≡ figureOf blank (λ (a : A). figure (f a)) answer
+  unfolding onAccepted figureOf
+  same-figure blank figure (accepted a) t e = ap (figureOf blank figure) e
+  same-figure blank figure (refused number) t e = ap (figureOf blank figure) e
 
 -- a labelling call's number, from the answer that it was told
 pub code-told : (answer : Answer (List ℕ)) (n : ℕ) (r r′ : LabelAnswer) (cells : List ℕ) → Labels answer n r cells → r ≡ r′ → codeOf (told r′) ≡ codeOf answer
-code-told answer n r r′ cells g e = ap (λ (x : LabelAnswer). codeOf (told x)) (sym e) ∙ (ap codeOf (g .result) ∙ same-code _ answer)
+code-told answer n r r′ cells g e = ap (λ (x : LabelAnswer). codeOf (told x)) (sym e) ∙ same-code _ answer _ (g .result)
 
 pub gave-refused : {A : Type 0} (written : A → List ℕ) (len n : ℕ) (result : List ℕ) → result ≡ replicate len 255 → Gave (refused n) len written n result
 unfolding codeOf figureOf
@@ -176,9 +181,6 @@ one-row dim k row centroids r cells some small one few a b g =
     let is : cells ≡ nearest (rowsFrom dim k centroids) (take dim row) .label ∷ [] = rw on at (g .labels) in
     rw (is, take-all dim row (omega arith))
 
-floats-length : (n : ℕ) (bytes : List ℕ) → length (floatsFrom n bytes) ≡ n
-floats-length n bytes = ap length (floats-tab n bytes) ∙ length-tab _ n
-
 pub one-label : (dim k : ℕ) (row centroids : List ℕ) (r : LabelAnswer) (cells : List ℕ) → 0 < dim → dim ≤ 64 → 0 < k → k ≤ 64
     → Labels (rowsCall 1 dim k (floatsFrom dim row) (floatsFrom (k * dim) centroids) 1) 1 r cells → getD cells 0 0 ≡ labelOf dim k row centroids
 unfolding labelOf
@@ -193,30 +195,15 @@ KMeansGave answer labelCells centroidCells r labels centroids objective restart 
     × ((centroids ≡ cellsOf zero32 centroidCells (λ (a : Result). flatten (a .centroids)) answer)
     × ((objective ≡ figureOf zero32 (λ (a : Result). a .objective) answer) × (restart ≡ figureOf 0 (λ (a : Result). a .restart) answer))))
 
-module _ (labelCells centroidCells : ℕ) (r : KMeansAnswer) (labels : List ℕ) (centroids : List Float) where
-  pub kmeans-accepted : (answer : Answer Result) (o : Float) (n : ℕ) → KMeansGives answer labelCells centroidCells r labels centroids → r ≡ Accepted o n
-      → KMeansGave answer labelCells centroidCells 0 labels centroids o n
-  unfolding codeOf figureOf onAccepted
-  kmeans-accepted (accepted a) o n g e =
-      let is : _≡_ {A = Answer (Float × ℕ)} (accepted (o, n)) (accepted (a .objective, a .restart)) = rw e at (g .result) in
-      let same : _≡_ {A = Float × ℕ} (o, n) (a .objective, a .restart) = cc in
-      (refl, (g .labelled, (g .centred, (ap (λ (f : Float × ℕ). f .0) same, ap (λ (f : Float × ℕ). f .1) same))))
-  kmeans-accepted (refused number) o n g e =
-      let is : _≡_ {A = Answer (Float × ℕ)} (accepted (o, n)) (refused number) = rw e at (g .result) in
-      let z : _≡_ {A = ℕ} 0 1 = cc in
-      absurd (omega arith)
-
-  pub kmeans-refused : (answer : Answer Result) (n : ℕ) → KMeansGives answer labelCells centroidCells r labels centroids → r ≡ KMeansAnswer·Refused n
-      → KMeansGave answer labelCells centroidCells n labels centroids zero32 0
-  unfolding codeOf figureOf onAccepted
-  kmeans-refused (accepted a) n g e =
-      let is : _≡_ {A = Answer (Float × ℕ)} (refused n) (accepted (a .objective, a .restart)) = rw e at (g .result) in
-      let z : _≡_ {A = ℕ} 0 1 = cc in
-      absurd (omega arith)
-  kmeans-refused (refused number) n g e =
-      let is : _≡_ {A = Answer (Float × ℕ)} (refused n) (refused number) = rw e at (g .result) in
-      let same : n ≡ number = cc in
-      (same, (g .labelled, (g .centred, (refl, refl))))
+pub kmeans-gave : (labelCells centroidCells : ℕ) (r : KMeansAnswer) (labels : List ℕ) (centroids : List Float) (answer : Answer Result) (number : ℕ) (o : Float) (n : ℕ)
+    → KMeansGives answer labelCells centroidCells r labels centroids → number ≡ codeOf (kmeansTold r)
+    → (o ≡ figureOf zero32 (λ (f : Float × ℕ). f .0) (kmeansTold r)) × (n ≡ figureOf 0 (λ (f : Float × ℕ). f .1) (kmeansTold r))
+    → KMeansGave answer labelCells centroidCells number labels centroids o n
+kmeans-gave labelCells centroidCells r labels centroids answer number o n g c f =
+    let figures : Result → Float × ℕ = λ a. (a .objective, a .restart) in
+    let objective = f .0 ∙ same-figure figures zero32 (λ (p : Float × ℕ). p .0) answer _ (g .result) in
+    let restart = f .1 ∙ same-figure figures 0 (λ (p : Float × ℕ). p .1) answer _ (g .result) in
+    (c ∙ same-code figures answer _ (g .result), (g .labelled, (g .centred, (objective, restart))))
 
 -- ---- grouping: from the enum to the number and the counts
 abbrev pub GroupGave : Answer Groups → ℕ → List Row → ℕ → ℕ → ℕ → ℕ → List ℕ → List ℕ → List Float → ℕ → ℕ → Type 0
@@ -227,27 +214,11 @@ GroupGave answer dim rows orderCells endCells meanCells r order ends means group
     × ((means ≡ cellsOf zero32 meanCells (λ (g : Groups). flatMap (meanOf dim rows) (g .groups)) answer)
     × ((groups ≡ figureOf 0 (λ (g : Groups). length (g .groups)) answer) × (splits ≡ figureOf 0 (λ (g : Groups). g .splits) answer)))))
 
-module _ (dim : ℕ) (rows : List Row) (orderCells endCells meanCells : ℕ) (r : GroupingAnswer) (order ends : List ℕ) (means : List Float) where
-  pub group-accepted : (answer : Answer Groups) (n m : ℕ) → GroupGives answer dim rows orderCells endCells meanCells r order ends means → r ≡ GroupingAnswer·Accepted n m
-      → GroupGave answer dim rows orderCells endCells meanCells 0 order ends means n m
-  unfolding codeOf figureOf onAccepted
-  group-accepted (accepted a) n m g e =
-      let is : _≡_ {A = Answer (ℕ × ℕ)} (accepted (n, m)) (accepted (figures a)) = rw e at (g .result) in
-      let same : _≡_ {A = ℕ × ℕ} (n, m) (figures a) = cc in
-      (refl, (g .ordered, (g .ended, (g .meant, (ap (λ (f : ℕ × ℕ). f .0) same, ap (λ (f : ℕ × ℕ). f .1) same)))))
-  group-accepted (refused number) n m g e =
-      let is : _≡_ {A = Answer (ℕ × ℕ)} (accepted (n, m)) (refused number) = rw e at (g .result) in
-      let z : _≡_ {A = ℕ} 0 1 = cc in
-      absurd (omega arith)
-
-  pub group-refused : (answer : Answer Groups) (n : ℕ) → GroupGives answer dim rows orderCells endCells meanCells r order ends means → r ≡ GroupingAnswer·Refused n
-      → GroupGave answer dim rows orderCells endCells meanCells n order ends means 0 0
-  unfolding codeOf figureOf onAccepted
-  group-refused (accepted a) n g e =
-      let is : _≡_ {A = Answer (ℕ × ℕ)} (refused n) (accepted (figures a)) = rw e at (g .result) in
-      let z : _≡_ {A = ℕ} 0 1 = cc in
-      absurd (omega arith)
-  group-refused (refused number) n g e =
-      let is : _≡_ {A = Answer (ℕ × ℕ)} (refused n) (refused number) = rw e at (g .result) in
-      let same : n ≡ number = cc in
-      (same, (g .ordered, (g .ended, (g .meant, (refl, refl)))))
+pub group-gave : (dim : ℕ) (rows : List Row) (orderCells endCells meanCells : ℕ) (r : GroupingAnswer) (order ends : List ℕ) (means : List Float) (answer : Answer Groups) (number n m : ℕ)
+    → GroupGives answer dim rows orderCells endCells meanCells r order ends means → number ≡ codeOf (groupsTold r)
+    → (n ≡ figureOf 0 (λ (f : ℕ × ℕ). f .0) (groupsTold r)) × (m ≡ figureOf 0 (λ (f : ℕ × ℕ). f .1) (groupsTold r))
+    → GroupGave answer dim rows orderCells endCells meanCells number order ends means n m
+group-gave dim rows orderCells endCells meanCells r order ends means answer number n m g c f =
+    let groups = f .0 ∙ same-figure figures 0 (λ (p : ℕ × ℕ). p .0) answer _ (g .result) in
+    let splits = f .1 ∙ same-figure figures 0 (λ (p : ℕ × ℕ). p .1) answer _ (g .result) in
+    (c ∙ same-code figures answer _ (g .result), (g .ordered, (g .ended, (g .meant, (groups, splits)))))

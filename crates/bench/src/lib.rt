@@ -4,25 +4,27 @@ ghost use mathlib.Core.Path.{_≡_};
 ghost use mathlib.Core.List.{List, [], _∷_, _++_, flatMap, flatten};
 ghost use Prim.Native.Nat.{ℕ, _+_, _*_, _≤_, _<_};
 ghost use lib.ListN.{length, replicate};
+ghost use lib.Ieee.{Float};
 ghost use Rattle.sums.specs.Refusals.{cellsOf, blankCell, Cleared};
 ghost use Rattle.words.specs.Bytes.{floatsFrom, bytes16};
 ghost use Rattle.labels.specs.Call.{labelCall as Call·labelCall};
 ghost use Rattle.closure.specs.Call.{closureCall};
-ghost use Rattle.kmeans.specs.Call.{kmeansCall};
+ghost use Rattle.kmeans.specs.Call.{kmeansCall, told as kmeansTold};
 ghost use Rattle.batch.specs.Batch.{listingOf, putFront};
 ghost use Rattle.bench.specs.Exports.{codeOf, Gave, labelRefusal, labelCall, labelOf, closureRefusal, closureBytesCall, closureWritten, configOf, figureOf};
 ghost use Rattle.kmeans.specs.KMeans.{Result};
-ghost use Rattle.grouping.specs.Groups.{Groups, endsFrom, meanOf};
+ghost use Rattle.splitting.specs.Groups.{Groups, endsFrom, meanOf};
+ghost use Rattle.splitting.specs.Answers.{told as groupsTold};
+ghost use Rattle.splitting.specs.Inside.{ruleOf};
 ghost use Rattle.grouping.specs.Call.{groupingCall};
-ghost use Rattle.grouping.specs.Inside.{ruleOf};
 ghost use Rattle.sums.specs.Rows.{rowsFrom};
 ghost use Rattle.sums.specs.Sums.{zero32};
 use closure::ClosureAnswer;
-use grouping::call::GroupingAnswer;
 use kmeans::call::KMeansAnswer;
 use kmeans::config::KMeansConfig;
 use labels::label;
 use labels::label::LabelAnswer;
+use splitting::waiting::GroupingAnswer;
 
 fn fill(result: &mut [u8])
     ensures { λ _. ⌜ now (result .exit) ≡ replicate (length (now (result .entry))) 255 ⌝ }
@@ -242,6 +244,28 @@ pub extern "C" fn families_label_rows(
     }
 }
 
+// The objective and the restart kept, apart from the call: its slices would be followed through both cases of the answer.
+fn put_kept(answer: KMeansAnswer, objective: &mut f64, restart: &mut u32) -> u32
+    ensures { λ r. ⌜ r ≡ codeOf (kmeansTold answer) ⌝ }
+    ensures { λ _. ⌜ (now (objective .exit) ≡ figureOf zero32 (λ (f : Float × ℕ). f .0) (kmeansTold answer)) × (now (restart .exit) ≡ figureOf 0 (λ (f : Float × ℕ). f .1) (kmeansTold answer)) ⌝ }
+{
+    match answer {
+        KMeansAnswer::Accepted {
+            objective: o,
+            restart: r,
+        } => {
+            *objective = o;
+            *restart = r;
+            0
+        }
+        KMeansAnswer::Refused(number) => {
+            *objective = 0.0f64;
+            *restart = 0;
+            number
+        }
+    }
+}
+
 // K-means over typed slices: 0, or the refusal's number; the objective and the restart kept are +0.0 and 0 after a refusal.
 #[no_mangle]
 pub extern "C" fn families_kmeans(
@@ -296,18 +320,26 @@ pub extern "C" fn families_kmeans(
         trial_labels,
         places,
     );
+    put_kept(answer, objective, restart)
+}
+
+// The number of groups and of splits, apart from the call.
+fn put_counts(answer: GroupingAnswer, groups: &mut u32, splits: &mut u32) -> u32
+    ensures { λ r. ⌜ r ≡ codeOf (groupsTold answer) ⌝ }
+    ensures { λ _. ⌜ (now (groups .exit) ≡ figureOf 0 (λ (f : ℕ × ℕ). f .0) (groupsTold answer)) × (now (splits .exit) ≡ figureOf 0 (λ (f : ℕ × ℕ). f .1) (groupsTold answer)) ⌝ }
+{
     match answer {
-        KMeansAnswer::Accepted {
-            objective: o,
-            restart: r,
+        GroupingAnswer::Accepted {
+            groups: g,
+            splits: s,
         } => {
-            *objective = o;
-            *restart = r;
+            *groups = g;
+            *splits = s;
             0
         }
-        KMeansAnswer::Refused(number) => {
-            *objective = 0.0f64;
-            *restart = 0;
+        GroupingAnswer::Refused(number) => {
+            *groups = 0;
+            *splits = 0;
             number
         }
     }
@@ -375,21 +407,7 @@ pub extern "C" fn families_group(
         trial_labels,
         places,
     );
-    match answer {
-        GroupingAnswer::Accepted {
-            groups: g,
-            splits: s,
-        } => {
-            *groups = g;
-            *splits = s;
-            0
-        }
-        GroupingAnswer::Refused(number) => {
-            *groups = 0;
-            *splits = 0;
-            number
-        }
-    }
+    put_counts(answer, groups, splits)
 }
 
 // A batch file in, its listing out: how many bytes the listing has. A buffer that is too short gets what fits.

@@ -1,16 +1,16 @@
 -- Laws of closure's definitions, one for each turn and end of the code's loops. Assumes nothing.
 use Prim.Native.Nat.{ℕ, zero, suc, _+_, _-_, _*_, _≤_, _<_}
 use mathlib.Core.Path.{_≡_, refl, sym, ap, _∙_}
-use mathlib.Core.Bool.{true, false, not, _&&_}
+use mathlib.Core.Bool.{true, false, _&&_}
 use mathlib.Core.List.{List, [], _∷_, _++_, append-nil}
 use native.Mathlib.Nat.{not-suc-le-zero}
 use native.Mathlib.Numerals.{add-one}
 use native.Mathlib.Omega.{arith}
-use borrow.Author.Tests.{eq-eqb, eqb-true}
+use borrow.Author.Tests.{eqb-true}
 use lib.Dec.{eqb}
 use lib.ListN.{length, getD, take, drop, set, replicate, length-append, length-map, drop-of-length-le}
 use lib.Seq.{drop-cons, take-suc}
-use lib.Ieee.{Float, nan, inf, fin, up, down, eq, ne, isNan}
+use lib.Ieee.{Float, nan, ne}
 use Rattle.sums.specs.Rows.{Row, rowsFrom, rowAt}
 use Rattle.sums.specs.Sums.{apartOf}
 use Rattle.sums.specs.Ordering.{placeOf, order, orderFrom, keep}
@@ -25,20 +25,10 @@ use Rattle.closure.specs.Call.{answered, closureRefusal, closureCall, Gi
 use Rattle.sums.proofs.Fronts.{take-least}
 use Rattle.sums.proofs.Inserts.{inserted-among, place-within}
 use Rattle.sums.proofs.Orders.{place-split, order-snoc, keep-append}
+use Rattle.sums.proofs.NanBits.{ne-self}
 use Rattle.sums.proofs.Refusing.{padded-none, padded-more, both, within-is, passed}
 
--- ---- a NaN is what differs from itself
-level-self : (m : ℕ) → (eqb m m && true) ≡ true
-level-self m = rw (eq-eqb m m refl)
-
-ne-self : (x : Float) → ne x x ≡ isNan x
-unfolding ne eq isNan
-ne-self nan = refl
-ne-self (inf true) = refl
-ne-self (inf false) = refl
-ne-self (fin true m e) = ap not (level-self (m * up e * down e))
-ne-self (fin false m e) = ap not (level-self (m * up e * down e))
-
+-- ---- a NaN among the distances
 pub nan-here : (ds : List Float) (i : ℕ) → i < length ds → ne (getD ds i nan) (getD ds i nan) ≡ true → anyNan (drop i ds) ≡ true
 unfolding anyNan
 nan-here ds i h e = rw (drop-cons ds i nan h, sym (ne-self (getD ds i nan)) ∙ e)

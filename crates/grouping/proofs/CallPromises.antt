@@ -10,11 +10,11 @@ use lib.ListN.{length}
 use Rattle.sums.specs.Tables.{upTo}
 use Rattle.sums.specs.Refusals.{Answer, accepted, refused, within, unless}
 use Rattle.sums.proofs.Refusing.{both, passed, lowest-none, lowest-when, lowest-most, lowest-only}
-use Rattle.grouping.specs.Groups.{Rule, Groups, partsOf, madeBy, waits, grouping, groupFrom}
+use Rattle.splitting.specs.Groups.{Rule, Groups, partsOf, madeBy, waits, grouping, groupFrom}
 use Rattle.grouping.specs.Call.{rangesFit, lengthsFit, groupingRefusal, groupingCall}
-use Rattle.grouping.proofs.GroupPromises.{Listing, Passes, Small, Spent, Done, six-when, six-only, seven-when, seven-only, accepted-when, accepted-only, only-six-or-seven, budget-accepted, budget-six, accepted-listing}
+use Rattle.splitting.proofs.GroupPromises.{Listing, Passes, Small, Spent, Done, six-when, six-only, seven-when, seven-only, accepted-when, accepted-only, only-six-or-seven, budget-accepted, budget-six, accepted-listing}
 use Rattle.grouping.proofs.Calls.{Ranged, ranged}
-use Rattle.grouping.proofs.SplitPromises.{start, parts-kept, Splits, SplitPromise, each-split}
+use Rattle.splitting.proofs.SplitPromises.{start, parts-kept, Splits, SplitPromise, each-split}
 
 -- The numbers that a grouping call can be refused by.
 pub data Number : ℕ → Type 0 where

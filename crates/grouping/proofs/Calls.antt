@@ -2,24 +2,22 @@
 use mathlib.Core.Path.{_≡_, refl, sym, ap, _∙_}
 use mathlib.Core.Bool.{true}
 use mathlib.Core.List.{List, [], _∷_, flatten, flatMap}
-use Prim.Native.Nat.{ℕ, zero, suc, _+_, _-_, _*_, _≤_, _<_}
+use Prim.Native.Nat.{ℕ, zero, suc, _*_, _≤_, _<_}
 use native.Mathlib.Omega.{arith}
 use lib.Ieee.{Float}
-use lib.ListN.{length, getD, take, replicate, length-append}
-use lib.Seq.{take-at, getD-take}
+use lib.ListN.{length, take, replicate}
 use Rattle.sums.specs.Rows.{Row, rowsFrom}
-use Rattle.sums.specs.Cells.{Below}
 use Rattle.sums.specs.Sums.{zero32}
-use Rattle.sums.specs.Refusals.{Answer, accepted, refused, unless, onAccepted, padded, cellsOf, blankCell}
+use Rattle.sums.specs.Refusals.{Answer, accepted, refused, unless, onAccepted, padded, cellsOf, blankCell, Cleared}
 use Rattle.sums.proofs.Refusing.{both, within-is, same-is, passed, padded-all, padded-none}
 use Rattle.steps.specs.Inside.{Limits}
-use Rattle.grouping.specs.declared.call.GroupingAnswer.{GroupingAnswer}
-use Rattle.grouping.specs.declared.call.GroupingAnswer.the-variants.{Accepted, Refused}
-use Rattle.grouping.specs.Groups.{Rule, Groups, grouping, endsFrom, meanOf}
-use Rattle.grouping.specs.Inside.{workOf, Grouped, ruleOf}
-use Rattle.grouping.specs.Call.{rangesFit, lengthsFit, groupingRefusal, groupingCall, figures, told, Gives}
-use Rattle.grouping.proofs.Averages.{heads}
-use Rattle.grouping.proofs.Stretches.{padded-is, ends-length, start-is, end-is}
+use Rattle.splitting.specs.declared.waiting.GroupingAnswer.{GroupingAnswer}
+use Rattle.splitting.specs.declared.waiting.GroupingAnswer.the-variants.{Accepted, Refused}
+use Rattle.splitting.specs.Groups.{Rule, Groups, grouping, endsFrom, meanOf}
+use Rattle.splitting.specs.Inside.{workOf, Grouped, ruleOf}
+use Rattle.splitting.specs.Answers.{figures, told}
+use Rattle.grouping.specs.Call.{rangesFit, lengthsFit, groupingRefusal, groupingCall, Gives}
+use Rattle.splitting.proofs.Acceptances.{taken}
 
 -- ---- the numbers of a call that refusal 1 lets through
 pub record Ranged (rows dim branching budget : ℕ) : Type 0 where
@@ -72,68 +70,7 @@ fitting rows dim limit branching budget draws values order ends means waiting co
       room = cc;
     }
 
--- the same room, its rows and parts counted otherwise
-pub room-at : {dim rows k : ℕ} {lent : List ℕ} (n m : ℕ) → n ≡ rows → m ≡ k → Limits dim k rows → lent ≡ (rows ∷ rows ∷ workOf dim rows rows)
-    → Limits dim m n × (lent ≡ (n ∷ n ∷ workOf dim n n))
-room-at n m e f l r = rw (e, f) (l, r)
-
 -- ---- what each answer gives
-
--- the same, its cells counted otherwise
-pub grouped-at : {answer : Answer Groups} {n : ℕ} {r : GroupingAnswer} {order ends : List ℕ} (m : ℕ) → m ≡ n → Grouped answer n r order ends → Grouped answer m r order ends
-grouped-at m e g = rw e g
-
-part-within : (gs : List (List ℕ)) (i : ℕ) → i < length gs → length (flatten (take i gs)) + length (getD gs i []) ≤ length (flatten gs)
-unfolding flatten
-part-within [] i h = absurd (omega arith)
-part-within (g ∷ gs) zero h = omega (arith, length-append g (flatten gs))
-part-within (g ∷ gs) (suc i) h = omega (arith, length-append g (flatten (take i gs)), length-append g (flatten gs), part-within gs i (omega arith))
-
--- the acceptance that the code's answer tells of, and its groups as they stand in the row order and the ends
-pub record Taken (answer : Answer Groups) (n groups splits : ℕ) (order ends : List ℕ) : Type 0 where
-  pub g : Groups
-  pub is : answer ≡ accepted g
-  pub many : length (g .groups) ≡ groups
-  pub laid : order ≡ flatten (g .groups)
-  pub cells : ends ≡ padded blankCell n (endsFrom 0 (g .groups))
-  pub ended : take groups ends ≡ endsFrom 0 (g .groups)
-  pub below : Below n order
-  pub fits : groups ≤ n
-
-pub taken : (answer : Answer Groups) (n groups splits : ℕ) (order ends : List ℕ) → Grouped answer n (Accepted groups splits) order ends → Taken answer n groups splits order ends
-unfolding onAccepted
-taken (accepted g) n groups splits order ends h =
-    let gs = g .groups in
-    let l = h .listed g refl in
-    let z : _≡_ {A = ℕ × ℕ} (groups, splits) (figures g) = let r = h .result in cc in
-    let m : groups ≡ length gs = ap (λ (f : ℕ × ℕ). f .0) z in
-    let w : n ≡ length (endsFrom 0 gs) + (n - length gs) = omega (arith, l .1 .1 .1, ends-length 0 gs) in
-    record {
-      g = g;
-      is = refl;
-      many = sym m;
-      laid = l .0;
-      cells = l .1 .0;
-      ended = rw (m, l .1 .0, padded-is blankCell n (n - length gs) (endsFrom 0 gs) w) (take-at (endsFrom 0 gs) (replicate (n - length gs) blankCell) (length gs) (ends-length 0 gs));
-      below = l .1 .1 .0;
-      fits = omega (arith, m, l .1 .1 .1);
-    }
-taken (refused number) n groups splits order ends h =
-    let r = h .result in
-    let z : _≡_ {A = ℕ} 0 1 = cc in
-    absurd (omega arith)
-
-pub cut : {answer : Answer Groups} {groups splits : ℕ} {order ends : List ℕ} → Taken answer (length order) groups splits order ends
-    → Below (length order) order × ((i : ℕ) → i < groups → (getD (0 ∷ ends) i 0 ≤ getD ends i 0) × (getD ends i 0 ≤ length order))
-cut {groups = groups} {order = order} {ends = ends} t =
-    let gs = t .g .groups in (
-      t .below,
-      λ i h.
-          let s : getD (0 ∷ ends) i 0 ≡ getD (0 ∷ endsFrom 0 gs) i 0 = sym (heads groups ends i h) ∙ ap (λ (l : List ℕ). getD (0 ∷ l) i 0) (t .ended) in
-          let e : getD ends i 0 ≡ getD (endsFrom 0 gs) i 0 = sym (getD-take groups ends i 0 h) ∙ ap (λ (l : List ℕ). getD l i 0) (t .ended) in
-          let k : i < length gs = omega (arith, t .many) in
-          (omega (arith, s, e, start-is 0 gs i (omega (arith, k)), end-is 0 gs i k), omega (arith, e, end-is 0 gs i k, part-within gs i k, ap length (t .laid))),
-    )
 
 module _ (answer : Answer Groups) (dim : ℕ) (values : List Float) (order ends : List ℕ) (meanCells : ℕ) where
   pub gives-listed : (groups splits : ℕ) (means : List Float) → length ends ≡ length order → Grouped answer (length order) (Accepted groups splits) order ends
@@ -200,3 +137,7 @@ pub gives-at : {dim : ℕ} {read : List Row} {r : GroupingAnswer} {order ends : 
     → Gives (groupingCall rule rows limit budget values (o′ ∷ e′ ∷ m′ ∷ rest)) dim read o′ e′ m′ r order ends means
     → Gives (groupingCall rule rows limit budget values (o ∷ e ∷ m ∷ rest)) dim read o e m r order ends means
 gives-at rule rows limit budget values rest o o′ e e′ m m′ a b c g = rw (a, b, c) at g
+
+-- cells filled with one value hold nothing else, counted afterwards too
+pub cleared : {A : Type 0} (blank : A) {n : ℕ} {cells : List A} → cells ≡ replicate n blank → length cells ≡ n → Cleared blank cells
+cleared blank e k = e ∙ ap (λ (n : ℕ). replicate n blank) (sym k)

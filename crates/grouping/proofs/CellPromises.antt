@@ -13,13 +13,14 @@ use Rattle.sums.specs.Refusals.{Answer, accepted, refused, onAccepted, cellsOf,
 use Rattle.sums.proofs.Weighs.{countOf}
 use Rattle.sums.proofs.Pairs.{all-at}
 use Rattle.sums.proofs.Refusing.{same-cons, padded-all, padded-none, padded-at, padded-past}
-use Rattle.grouping.specs.declared.call.GroupingAnswer.{GroupingAnswer}
-use Rattle.grouping.specs.declared.call.GroupingAnswer.the-variants.{Accepted, Refused}
-use Rattle.grouping.specs.Groups.{Rule, Groups, meanOf, endsFrom}
-use Rattle.grouping.specs.Call.{lengthsFit, figures, told, Gives}
-use Rattle.grouping.proofs.Stretches.{flatten-part, flatMap-part, flatMap-length, padded-is, padded-length, ends-length, start-is, end-is}
-use Rattle.grouping.proofs.Averages.{mean-length}
-use Rattle.grouping.proofs.GroupPromises.{Sized, Listing, some-group}
+use Rattle.splitting.specs.declared.waiting.GroupingAnswer.{GroupingAnswer}
+use Rattle.splitting.specs.declared.waiting.GroupingAnswer.the-variants.{Accepted, Refused}
+use Rattle.splitting.specs.Groups.{Rule, Groups, meanOf, endsFrom}
+use Rattle.splitting.specs.Answers.{figures, told}
+use Rattle.grouping.specs.Call.{lengthsFit, Gives}
+use Rattle.splitting.proofs.Stretches.{flatten-part, flatMap-part, flatMap-length, padded-is, padded-length, ends-length, start-is, end-is}
+use Rattle.splitting.proofs.Averages.{mean-length}
+use Rattle.splitting.proofs.GroupPromises.{Sized, Listing, some-group}
 use Rattle.grouping.proofs.CallPromises.{call, passed-exactly, accepted-passed, call-listing}
 
 -- group i as a caller reads it: the stretch of the row order from the end before it, 0 for the first, up to its own end

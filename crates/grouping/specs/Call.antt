@@ -7,10 +7,10 @@ use lib.ListN.{length}
 use lib.Ieee.{Float}
 use Rattle.sums.specs.Rows.{Row, rowsFrom}
 use Rattle.sums.specs.Sums.{zero32}
-use Rattle.sums.specs.Refusals.{Answer, accepted, refused, within, sameAll, lowest, unless, onAccepted, cellsOf, blankCell}
-use Rattle.grouping.specs.declared.call.GroupingAnswer.{GroupingAnswer}
-use Rattle.grouping.specs.declared.call.GroupingAnswer.the-variants.{Accepted, Refused}
-use Rattle.grouping.specs.Groups.{Rule, Groups, grouping, endsFrom, meanOf}
+use Rattle.sums.specs.Refusals.{Answer, within, sameAll, lowest, unless, onAccepted, cellsOf, blankCell}
+use Rattle.splitting.specs.declared.waiting.GroupingAnswer.{GroupingAnswer}
+use Rattle.splitting.specs.Answers.{told, figures}
+use Rattle.splitting.specs.Groups.{Rule, Groups, grouping, endsFrom, meanOf}
 
 unfoldable pub rangesFit : ℕ → ℕ → ℕ → ℕ → ℕ → Bool
 rangesFit rows dim limit branching budget = within 0 4096 rows && within 1 64 dim && within 0 4096 limit && within 1 64 branching && within 0 8192 budget
@@ -30,14 +30,6 @@ groupingRefusal rows dim limit branching budget draws values lent =
 unfoldable pub groupingCall : Rule → ℕ → ℕ → ℕ → ℕ → List ℕ → Answer Groups
 groupingCall rule rows limit budget values lent =
     unless (groupingRefusal rows (rule .dim) limit (rule .branching) budget (length (rule .draws)) values lent) (grouping rule limit budget)
-
--- each case of the code's enum in 01's terms: the numbers of groups and of splits, or the refusal's number
-abbrev pub told : GroupingAnswer → Answer (ℕ × ℕ)
-told (Accepted groups splits) = accepted (groups, splits)
-told (Refused number) = refused number
-
-abbrev pub figures : Groups → ℕ × ℕ
-figures g = (length (g .groups), g .splits)
 
 -- a call's whole result: the answer, the row order, the group ends and the means
 pub record Gives (answer : Answer Groups) (dim : ℕ) (rows : List Row) (orderCells endCells meanCells : ℕ) (r : GroupingAnswer) (order ends : List ℕ) (means : List Float) : Type 0 where

@@ -1,4 +1,2 @@
--- 01, 'Grouping', as definitions: one split, the waiting groups, the call with its refusals, and what the functions inside say.
-pub mod Groups
+-- 01, 'Grouping' and 'Ranges and refusal numbers', as definitions: the call with its refusals and its result.
 pub mod Call
-pub mod Inside

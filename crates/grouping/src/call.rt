@@ -7,18 +7,13 @@ ghost use Rattle.sums.specs.Rows.{rowsFrom};
 ghost use Rattle.sums.specs.Sums.{zero32};
 ghost use Rattle.sums.specs.Refusals.{Answer, Cleared};
 ghost use Rattle.grouping.specs.Call.{rangesFit, lengthsFit, groupingRefusal, groupingCall, Gives};
-ghost use Rattle.grouping.specs.Groups.{Groups};
-ghost use Rattle.grouping.specs.Inside.{ruleOf, Grouped};
-use crate::means;
-use crate::waiting;
+ghost use Rattle.splitting.specs.Groups.{Groups};
+ghost use Rattle.splitting.specs.Inside.{ruleOf, Grouped};
+use splitting::means;
+use splitting::waiting;
+use splitting::waiting::GroupingAnswer;
 use sums::cells;
 use sums::checks;
-
-pub enum GroupingAnswer {
-    Accepted { groups: u32, splits: u32 },
-    // the refusal's number
-    Refused(u32),
-}
 
 // 1: a number is out of range.
 fn ranges_fit(rows: u32, dim: u32, limit: u32, branching: u32, budget: u32) -> bool

@@ -1,5 +1,2 @@
-// Grouping (the source's clustering.rs): splitting, the waiting groups, means, the call.
+// Grouping (the source's clustering.rs): the call, whole.
 pub mod call;
-pub mod means;
-pub mod split;
-pub mod waiting;

@@ -20,8 +20,8 @@ use Rattle.kmeans.specs.declared.restart.Kept.{Kept}
 use Rattle.steps.specs.Steps.{Fit, target, trainingIf, iterate, objectiveFrom}
 use Rattle.kmeans.specs.KMeans.{Run, kmeans, firstFit, keepBetter, resultOf, fitOf, restartsFrom, restartsOf}
 use Rattle.kmeans.specs.Inside.{heldOf}
-use Rattle.steps.proofs.Rooms.{Room}
-use Rattle.kmeans.proofs.Rooms.{Spaces, Workspace}
+use Rattle.steps.proofs.Rooms.{Room, room-in}
+use Rattle.kmeans.proofs.Rooms.{Spaces, spaces-in, spaces-out}
 use Rattle.steps.proofs.Selects.{Selected}
 use Rattle.steps.proofs.Iterations.{Fitted}
 
@@ -59,19 +59,9 @@ Ran draws config k dim rows cursor r labels centroids =
 -- the training rows have room, and the centroids that a restart is to fill
 pub trained : {dim rows aim k values own training centroids distances trialLabels places : ℕ} → Spaces dim rows aim k values own training centroids distances trialLabels places
     → (block held : ℕ) → 0 < block → held ≡ k * dim → Room dim aim k block training aim held aim
-trained s block held b h = record {
-  some-dim = s .some-dim;
-  small-dim = s .small-dim;
-  some-rows = omega (arith, s .some, s .enough);
-  few-rows = omega (arith, s .within, s .few-rows);
-  some = s .some;
-  few = s .few;
-  some-block = b;
-  training-cells = s .training-cells;
-  own-cells = refl;
-  centroid-cells = h;
-  distance-cells = refl;
-}
+trained s block held b h =
+    let limits = spaces-out s .0 .0 in
+    room-in (((limits .0, (limits .1 .0, omega (arith, s .within, s .few-rows))), (omega (arith, s .some, s .enough), b)), rw (s .training-cells, h))
 
 pub restarted : (draws : List ℕ) (k dim block iterations m : ℕ) (training centroids₀ centroids : List Row) (places : List ℕ) (cursor next r : Cursor)
     → m ≡ length training → Below m places × Drawn draws cursor next places (λ n. exchangesFrom draws m n 0 k (upTo m)) (λ n. n + k) → centroids₀ ≡ rowsAt training (take k places)
@@ -87,29 +77,13 @@ restarted draws k dim block iterations m training centroids₀ centroids places 
 
 -- ---- the whole run
 
--- with `aim` rows training, a call's slices leave room for the restarts
-pub spaces-of : {points block dim rows k values centroids training own trainingOwn distances trialLabels places : ℕ}
-    → Workspace points block dim rows k values centroids training own trainingOwn distances trialLabels places
+-- where all rows may train there is room for `aim` of them
+pub spaces-of : {dim rows k values own training centroids distances trialLabels places : ℕ} → Spaces dim rows rows k values own training centroids distances trialLabels places
     → (aim aim′ own′ training′ places′ : ℕ) → k ≤ aim → aim ≤ rows → aim′ ≡ aim → own′ ≡ own → training′ ≡ aim * dim → places′ ≡ aim
     → Spaces dim rows aim′ k values own′ training′ centroids distances trialLabels places′
-spaces-of w aim aim′ own′ training′ places′ l h ea eo et ep =
+spaces-of s aim aim′ own′ training′ places′ l h ea eo et ep =
     rw (ea, eo, et, ep)
-    (record {
-      some-dim = w .some-dim;
-      small-dim = w .small-dim;
-      some = w .some;
-      few = w .few;
-      enough = l;
-      within = h;
-      few-rows = w .few-rows;
-      value-cells = w .value-cells;
-      own-cells = w .own-cells;
-      training-cells = refl;
-      centroid-cells = w .centroid-cells;
-      distance-cells = w .distance-cells;
-      trial-cells = w .trial-cells;
-      place-cells = refl;
-    })
+    (spaces-in ((spaces-out s .0 .0, (l, h)), rw (s .value-cells, s .own-cells, s .centroid-cells, s .distance-cells, s .trial-cells)))
 
 -- the rows selected, gathered, and all restarts over them
 pub ran : (draws : List ℕ) (config : KMeansConfig) (k dim aim m : ℕ) (training rows : List Row) (cursor next : Cursor) (r : Kept) (places labels : List ℕ) (centroids : List Row)

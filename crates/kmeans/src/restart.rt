@@ -15,7 +15,7 @@ ghost use Rattle.steps.specs.Inside.{Limits, roomOf};
 ghost use Rattle.kmeans.specs.Inside.{spacesOf, heldOf};
 use crate::config::KMeansConfig;
 use labels::nearest;
-use steps::lloyd;
+use steps::alike;
 use steps::objective;
 use steps::training;
 use sums::cells;
@@ -52,7 +52,7 @@ fn run_restart(
     let rows = places.len();
     let next = draws::pick(draws, cursor, places, k);
     training::gather_rows(training, dim, rows, &places[..k], centroids);
-    lloyd::run_lloyd_iterations(
+    alike::run_lloyd_iterations(
         iterations,
         training,
         own,

@@ -7,12 +7,13 @@ use native.Mathlib.Numerals.{add-one}
 use native.Mathlib.Omega.{arith}
 use lib.Dec.{eqb}
 use lib.Ieee.{Float, nan}
-use lib.ListN.{length, getD, take, drop, set, length-set, length-drop, drop-of-length-le}
+use lib.ListN.{length, getD, take, drop, set, length-set, length-drop}
 use lib.Seq.{drop-set-lt, drop-cons, length-take-le}
 use Rattle.sums.specs.Rows.{Row, rowsFrom, rowAt}
 use Rattle.sums.specs.Sums.{normOf}
 use Rattle.sums.specs.Tables.{tabulate}
 use Rattle.sums.specs.Refusals.{sameAll}
+use Rattle.sums.proofs.Sames.{same-turn, same-none}
 use Rattle.sums.proofs.Tables.{fill-more, fill-done, getD-tab, length-tab, tab-same}
 use Rattle.sums.proofs.Rows.{room, map-rows}
 use Rattle.labels.specs.declared.nearest.Nearest.{Nearest}
@@ -48,15 +49,6 @@ read l l₀ i h h₀ e =
     let p : getD l i 0 ∷ drop (suc i) l ≡ getD l₀ i 0 ∷ drop (suc i) l₀ = sym (drop-cons l i 0 h) ∙ (e ∙ drop-cons l₀ i 0 h₀) in
     (cc, cc)
 
-same-on : (xs ys : List ℕ) (i : ℕ) → i < length xs → i < length ys
-    → sameAll (drop i xs) (drop i ys) ≡ (eqb (getD xs i 0) (getD ys i 0) && sameAll (drop (suc i) xs) (drop (suc i) ys))
-unfolding sameAll
-same-on xs ys i h k = rw (drop-cons xs i 0 h, drop-cons ys i 0 k)
-
-same-end : (xs ys : List ℕ) (i : ℕ) → length xs ≤ i → length ys ≤ i → sameAll (drop i xs) (drop i ys) ≡ true
-unfolding sameAll
-same-end xs ys i h k = rw (drop-of-length-le xs {i = i} h, drop-of-length-le ys {i = i} k)
-
 module _ {found : ℕ → Nearest} {labels₀ labels : List ℕ} {distances : List Float} {same : Bool} {i : ℕ} (h : Assigning found labels₀ labels distances same i) where
   -- row i's nearest, put to its cells
   pub assigning-step : {labels' : List ℕ} {distances' : List Float} {same' : Bool} (n : Nearest) → i < length labels₀ → n ≡ found i
@@ -75,7 +67,7 @@ module _ {found : ℕ → Nearest} {labels₀ labels : List ℕ} {distances : Li
         distances-done = fill-more _ distances i (n .distance) (omega (arith, h .distances-sized)) (h .distances-done) (ap (λ (x : Nearest). x .distance) e);
         rest = rw (add-one i) (drop-set-lt (suc i) labels i (n .label) (omega arith) ∙ old .1);
         so-far = rw (add-one i, s, old .0, p, ← (getD-tab f (length labels₀) i 0 l), and-assoc)
-            (ap (λ (b : Bool). same && b) (sym (same-on labels₀ (tabulate f (length labels₀)) i l (rw (length-tab f (length labels₀)) l))) ∙ h .so-far);
+            (ap (λ (b : Bool). same && b) (sym (same-turn labels₀ (tabulate f (length labels₀)) i l (rw (length-tab f (length labels₀)) l))) ∙ h .so-far);
       }
 
   pub assigning-labels : length labels₀ ≤ i → labels ≡ tabulate (λ j. found j .label) (length labels₀)
@@ -91,7 +83,7 @@ module _ {found : ℕ → Nearest} {labels₀ labels : List ℕ} {distances : Li
   pub assigning-same : length labels₀ ≤ i → same ≡ sameAll labels₀ labels
   assigning-same l =
       rw (assigning-labels l)
-      (sym (and-true same) ∙ rw (same-end labels₀ (tabulate (λ j. found j .label) (length labels₀)) i l (rw (length-tab (λ j. found j .label) (length labels₀)) l)) at (h .so-far))
+      (sym (and-true same) ∙ rw (same-none labels₀ (tabulate (λ j. found j .label) (length labels₀)) i l (rw (length-tab (λ j. found j .label) (length labels₀)) l)) at (h .so-far))
 
 -- ---- labels and distances by index
 module _ (centroids : List Row) (dim n : ℕ) (values : List Float) where

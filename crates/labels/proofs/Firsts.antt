@@ -1,4 +1,4 @@
--- What the search for the nearest finds: the first of smallest score. Assumes nothing.
+-- What the search for the nearest finds: the first of smallest score, with a distance that is no NaN. Assumes nothing.
 use mathlib.Core.Path.{_≡_, refl, sym, ap, _∙_}
 use mathlib.Core.Bool.{Bool, true, false, cond, false≢true}
 use mathlib.Core.List.{List, [], _∷_, _++_, map, append-nil, append-assoc}
@@ -9,10 +9,10 @@ use native.Mathlib.Numerals.{add-one}
 use native.Mathlib.Omega.{arith}
 use lib.ListN.{length, getD, List·getD-append, length-append, length-map}
 use lib.Seq.{getD-append-seam}
-use lib.Ieee.{Float, nan, lt, le}
+use lib.Ieee.{Float, nan, lt, le, isNan}
 use Rattle.sums.specs.Rows.{Row}
 use Rattle.sums.specs.Sums.{infinity}
-use Rattle.sums.proofs.Floats.{le-lt-trans, lt-trans, lt-irrefl, not-true-false}
+use Rattle.sums.proofs.Floats.{le-lt-trans, lt-trans, lt-irrefl, not-true-false, lt-known}
 use Rattle.labels.specs.declared.nearest.Nearest.{Nearest}
 use Rattle.labels.specs.Label.{score, better, nearestFrom, nothingYet, nearest}
 
@@ -96,3 +96,17 @@ from-below c m (s ∷ scores) best h b = from-below (suc c) m scores (better c s
 pub nearest-below : (centroids : List Row) (row : Row) → 0 < length centroids → nearest centroids row .label < length centroids
 unfolding nearest
 nearest-below centroids row h = from-below 0 (length centroids) (map (score row) centroids) nothingYet (omega (arith, length-map centroids (score row))) h
+
+-- ---- the distance of the nearest is never a NaN, as only what is below the best takes its place
+better-known : (cluster : ℕ) (s : Float) (best : Nearest) → isNan (best .distance) ≡ false → isNan (better cluster s best .distance) ≡ false
+unfolding better
+better-known cluster s best h = go (lt s (best .distance)) refl
+  where
+    go : (t : Bool) → lt s (best .distance) ≡ t → isNan (cond t (record { label = cluster; distance = s }) best .distance) ≡ false
+    go true e = lt-known s (best .distance) e
+    go false e = h
+
+pub from-known : (cluster : ℕ) (scores : List Float) (best : Nearest) → isNan (best .distance) ≡ false → isNan (nearestFrom cluster scores best .distance) ≡ false
+unfolding nearestFrom
+from-known cluster [] best h = h
+from-known cluster (s ∷ scores) best h = from-known (suc cluster) scores (better cluster s best) (better-known cluster s best h)

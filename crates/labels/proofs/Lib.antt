@@ -1,11 +1,7 @@
--- The laws that the proofs of this layer share, and what labelling and the pool promise.
+-- The laws that the proofs of this layer share, and what labelling promises.
 pub mod Columns
 pub mod Searches
 pub mod Assigns
 pub mod Calls
 pub mod Firsts
 pub mod Promises
-pub mod Blocks
-pub mod Pools
-pub mod Farther
-pub mod PoolPromises

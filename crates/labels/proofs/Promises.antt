@@ -1,10 +1,12 @@
 -- What labelling promises beyond its contracts: each promise in words, then as a law. Assumes nothing.
 use mathlib.Core.Path.{_≡_, refl, sym, ap, _∙_}
-use mathlib.Core.List.{List, [], map, map-map}
+use mathlib.Core.Bool.{false}
+use mathlib.Core.List.{List, [], _∷_, map, map-map}
 use Prim.Native.Nat.{ℕ, zero, suc, _<_}
+use native.Mathlib.Nat.{not-suc-le-zero, le-of-suc-le-suc}
 use native.Mathlib.Omega.{arith}
 use lib.ListN.{length, getD, length-map}
-use lib.Ieee.{Float, nan}
+use lib.Ieee.{Float, nan, isNan}
 use Rattle.sums.specs.Rows.{Row, rowsFrom, rowAt}
 use Rattle.sums.specs.Cells.{Below}
 use Rattle.sums.specs.Refusals.{Answer, accepted, unless, onAccepted, cellsOf, blankCell}
@@ -12,12 +14,12 @@ use Rattle.sums.proofs.Tables.{map-index, length-tab, getD-tab}
 use Rattle.sums.proofs.Rows.{rows-length}
 use Rattle.labels.specs.declared.label.LabelAnswer.{LabelAnswer}
 use Rattle.labels.specs.declared.label.LabelAnswer.the-variants.{Labelled}
-use Rattle.labels.specs.Label.{score, nearest, nearests, labelsOf, distancesOf}
+use Rattle.labels.specs.Label.{score, nothingYet, nearest, nearests, labelsOf, distancesOf}
 use Rattle.labels.specs.Call.{labelRefusal, labelCall, told, Gives}
 use Rattle.sums.proofs.Refusing.{padded-all}
 use Rattle.labels.proofs.Calls.{fitting, told-once}
 use Rattle.labels.proofs.Assigns.{labels-tab, distances-tab}
-use Rattle.labels.proofs.Firsts.{FirstOf, first-of, nearest-below}
+use Rattle.labels.proofs.Firsts.{FirstOf, first-of, nearest-below, from-known}
 
 -- ---- a row's label is the first cluster of smallest score below infinity, or 0 if there is none, with distance infinity
 pub label-first : (centroids : List Row) (row : Row) → FirstOf (map (score row) centroids) (nearest centroids row)
@@ -50,6 +52,13 @@ label-below centroids rows h =
     rw (map-map (λ n. n .label) (nearest centroids) rows, map-index (λ r. nearest centroids r .label) rows []) (λ i l.
     let p : i < length rows = rw length-tab at l in
     rw (getD-tab (λ j. nearest centroids (getD rows j []) .label) (length rows) i 0 p) (nearest-below centroids (getD rows i []) h))
+
+-- ---- no distance that labelling gives is a NaN, so that the pool's order is total on them
+pub distances-known : (centroids rows : List Row) (i : ℕ) → i < length (distancesOf (nearests centroids rows)) → isNan (getD (distancesOf (nearests centroids rows)) i nan) ≡ false
+unfolding nearests nearest isNan
+distances-known centroids [] i l = absurd (not-suc-le-zero l)
+distances-known centroids (row ∷ rows) zero l = from-known 0 (map (score row) centroids) nothingYet refl
+distances-known centroids (row ∷ rows) (suc i) l = distances-known centroids rows i (le-of-suc-le-suc l)
 
 -- ---- a call that is told `Labelled` finds a label below k in each of its cells, one a row
 pub cells-below : (rows dim k : ℕ) (values centroids : List Float) (n : ℕ) (cells : List ℕ)

@@ -2,12 +2,11 @@
 use mathlib.Core.Path.{_≡_}
 use mathlib.Core.List.{List, map}
 use Prim.Native.Nat.{ℕ, _*_, _/_, _%_, _≤_, _<_}
-use lib.ListN.{length, getD, take}
+use lib.ListN.{length, getD}
 use lib.Ieee.{Float, nan}
 use Rattle.sums.specs.Rows.{Row, rowsFrom, rowAt}
 use Rattle.sums.specs.Sums.{normOf, dotOf}
 use Rattle.sums.specs.Tables.{tabulate}
-use Rattle.sums.specs.Cells.{Below}
 use Rattle.labels.specs.Label.{scoreFrom, nearestFrom, nothingYet}
 use Rattle.labels.specs.declared.nearest.Nearest.{Nearest}
 use Rattle.labels.specs.Panels.{columnOf}
@@ -25,7 +24,3 @@ byPanels row own panels norms = let column : ℕ → Row = λ c. columnOf (rowAt
 abbrev pub Assignable : ℕ → ℕ → List Float → List Float → List Float → ℕ → ℕ → Type 0
 Assignable dim k values norms centroids labels distances = ((0 < dim) × ((dim ≤ 64) × (k ≤ 64)))
     × ((length values ≡ labels * dim) × ((length centroids ≡ k * dim) × ((distances ≡ labels) × (norms ≡ normsOf (rowsFrom dim labels values)))))
-
--- a pool of at most cap positions in front of `at`, `count` of them so far, with their distances
-abbrev pub Holds : List Float → List ℕ → ℕ → ℕ → Type 0
-Holds distances at count cap = (0 < cap) × ((count ≤ cap) × ((cap ≤ length at) × Below (length distances) (take count at)))

@@ -9,7 +9,7 @@ use lib.Seq.{length-take-le, split-at, drop-drop}
 use Rattle.sums.proofs.Weighs.{weigh, weigh-append, weigh-drop, weigh-at}
 use Rattle.parts.specs.Parts.{sizesOf, flat}
 use Rattle.parts.specs.Inside.{total}
-use Rattle.parts.proofs.Lists.{mid-at}
+use Rattle.sums.proofs.Fronts.{mid-at}
 
 pub sizes-length : (ps : List (List ℕ)) → length (sizesOf ps) ≡ length ps
 sizes-length [] = refl

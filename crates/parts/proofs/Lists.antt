@@ -7,9 +7,8 @@ use native.Mathlib.Numerals.{add-one}
 use native.Mathlib.Omega.{arith}
 use lib.Dec.{leb}
 use borrow.Author.Tests.{leb-false, lt-leb}
-use lib.ListN.{length, take, drop, getD, set, length-append, length-take, length-drop}
-use lib.Seq.{take-at, drop-at, split-at, append-snoc, getD-drop, getD-take, drop-drop}
-use borrow.Rule.Slice.PartMut.{putMid, midOf}
+use lib.ListN.{length, take, drop, getD, set, length-append, length-drop}
+use lib.Seq.{take-at, drop-at, split-at, append-snoc, getD-drop, drop-drop}
 use Rattle.sums.specs.Cells.{Below}
 use Rattle.sums.proofs.Belows.{below-tail}
 use Rattle.sums.proofs.Weighs.{weigh, one, Same}
@@ -38,14 +37,6 @@ module _ {A : Type 0} where
       let h : n < length (drop (suc a) ps) = rw length-drop (omega arith) in
       split-at ps a d (omega arith)
       ∙ ap (λ z. take a ps ++ getD ps a d ∷ z) (split-at (drop (suc a) ps) n d h ∙ rw (getD-drop, drop-drop, e, f))
-
-  -- the part of a list after pre, lent and put back
-  module _ (whole pre s post : List A) (from k : ℕ) (e : whole ≡ pre ++ (s ++ post)) (l : length pre ≡ from) (l′ : length s ≡ k) where
-    pub mid-at : midOf from k whole ≡ s
-    mid-at = rw (e, drop-at pre (s ++ post) from l) (take-at s post k l′)
-
-    pub put-at : (t : List A) → putMid from k whole t ≡ pre ++ (t ++ post)
-    put-at t = rw (e, take-at pre (s ++ post) from l, drop-at pre (s ++ post) from l, drop-at s post k l′)
 
 -- l without what stands at j
 abbrev pub without : ℕ → List ℕ → List ℕ

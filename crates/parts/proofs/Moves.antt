@@ -13,7 +13,8 @@ use borrow.Rule.Slice.PartMut.{putMid, midOf}
 use Rattle.parts.specs.Parts.{sizesOf, flat}
 use Rattle.parts.specs.Balance.{moved}
 use Rattle.parts.specs.Inside.{total, carried}
-use Rattle.parts.proofs.Lists.{without, drop-past, two-places, mid-at, put-at}
+use Rattle.sums.proofs.Fronts.{mid-at, put-at}
+use Rattle.parts.proofs.Lists.{without, drop-past, two-places}
 use Rattle.parts.proofs.Layouts.{sizes-length, sizes-at, sizes-after, flat-append, start-le, start-order}
 
 module _ (pre mid post : List (List ℕ)) (P Q : List ℕ) (a b : ℕ) (la : length pre ≡ a) (lb : a + suc (length mid) ≡ b) where

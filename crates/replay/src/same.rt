@@ -45,16 +45,7 @@ pub fn cells(cells: &[u16], stored: &[u8]) -> bool
     true
 }
 
-// `f32::to_bits` is not defined at a NaN; this is the pattern that the definition writes for it.
-fn bits_of(x: f32) -> u32
-    ensures { λ r. ⌜ r ≡ toBits binary32 x ⌝ }
-{
-    if x != x {
-        return 0x7fc0_0000;
-    }
-    f32::to_bits(x)
-}
-
+// `f64::to_bits` is not defined at a NaN; this is the pattern that the definition writes for it.
 pub fn double_bits_of(x: f64) -> u64
     ensures { λ r. ⌜ r ≡ toBits binary64 x ⌝ }
 {
@@ -71,7 +62,7 @@ pub fn floats(floats: &[f32], stored: &[u8]) -> bool
 {
     let mut i = 0usize;
     while i < floats.len() {
-        if bits_of(floats[i]) != words::u32_at(stored, i * 4) {
+        if sums::bits::bits_of(floats[i]) != words::u32_at(stored, i * 4) {
             return false;
         }
         i += 1;

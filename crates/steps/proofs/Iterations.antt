@@ -17,7 +17,7 @@ use Rattle.sums.specs.Draws.{cursorAt, Drawn}
 use Rattle.sums.specs.Cells.{Below}
 use Rattle.labels.specs.declared.nearest.Nearest.{Nearest}
 use Rattle.labels.specs.Label.{nearests, labelsOf}
-use Rattle.labels.specs.Pool.{pool}
+use Rattle.pool.specs.Pool.{pool}
 use Rattle.sums.specs.Sums.{zeroRow}
 use Rattle.sums.proofs.Refusing.{same-is, both}
 use Rattle.labels.proofs.Assigns.{Assigned}
@@ -131,7 +131,7 @@ Iteration draws k dim block training centroids₀ centroids labels₀ labels at�
     × ((r .settled ≡ true → (again ≡ true) × ((labels ≡ labels₀) × (repeats counts hand (take held at₀) ≡ true)))
     × (r .settled ≡ true → (centroids ≡ centroids₀) × (r .cursor ≡ cursor)))))
 
-same-fit : (f : Fit) (c : List Row) (n : ℕ) → f .centroids ≡ c → f .made ≡ n → f ≡ record { centroids = c; made = n }
+pub same-fit : (f : Fit) (c : List Row) (n : ℕ) → f .centroids ≡ c → f .made ≡ n → f ≡ record { centroids = c; made = n }
 same-fit f c n p q = rw (← p, ← q)
 
 module _ (draws : List ℕ) (k dim block : ℕ) (training centroids : List Row) (labels₀ labels : List ℕ) (distances : List Float) (same : Bool) (counts : List ℕ) (totals : List Row)
@@ -198,10 +198,39 @@ module _ (draws : List ℕ) (k dim block : ℕ) (training : List Row) (total : �
     pub after : ℕ
     pub gave : centroids ≡ updateFrom draws training after (take held at) (countsFrom (replicate k 0) labels) (sumsFrom (replicate k (zeroRow dim)) labels training)
 
-  pub record Left (n : ℕ) (centroids : List Row) (labels at : List ℕ) (held : ℕ) (cursor : Cursor) (i : ℕ) : Type 0 where
+  -- i of the iterations are done: those left lead to where all of them lead
+  pub record Onward (n : ℕ) (centroids : List Row) (cursor : Cursor) (i : ℕ) : Type 0 where
     pub made : ℕ
     pub place : cursor ≡ cursorAt draws made
     pub done : iterate draws k dim block training (total - i) (record { centroids = centroids; made = made }) ≡ iterate draws k dim block training total (record { centroids = centroids₀; made = n })
+
+  pub onward-start : (n : ℕ) → c₀ ≡ cursorAt draws n → Onward n centroids₀ c₀ 0
+  onward-start n p = let z : total - 0 ≡ total = omega arith in record { made = n; place = p; done = rw z }
+
+  module _ {n : ℕ} {centroids : List Row} {cursor : Cursor} {i : ℕ} (o : Onward n centroids cursor i) where
+    pub onward-step : {r : Cursor} {rows : List Row} → i < total
+        → Drawn draws cursor r rows (λ m. update draws k dim block training m (nearests centroids training) .centroids) (λ m. update draws k dim block training m (nearests centroids training) .made) → Onward n rows r (i + 1)
+    unfolding iterate
+    onward-step l d =
+        let u : Fit = update draws k dim block training (o .made) (nearests centroids training) in
+        let w = d .steps (o .made) (o .place) in
+        let z : total - i ≡ suc (total - (i + 1)) = omega arith in
+        record {
+          made = u .made;
+          place = w .1;
+          done = ap (iterate draws k dim block training (total - (i + 1))) (sym (same-fit u _ _ (sym (w .0)) refl)) ∙ rw z at (o .done);
+        }
+
+    pub onward-end : total ≤ i
+        → (centroids ≡ iterate draws k dim block training total (record { centroids = centroids₀; made = n }) .centroids) × (cursor ≡ cursorAt draws (iterate draws k dim block training total (record { centroids = centroids₀; made = n }) .made))
+    unfolding iterate
+    onward-end l =
+        let z : total - i ≡ 0 = omega arith in
+        let x = rw z at (o .done) in
+        (ap (λ (y : Fit). y .centroids) x, o .place ∙ ap (λ (y : Fit). cursorAt draws (y .made)) x)
+
+  pub record Left (n : ℕ) (centroids : List Row) (labels at : List ℕ) (held : ℕ) (cursor : Cursor) (i : ℕ) : Type 0 where
+    pub onward : Onward n centroids cursor i
     pub prior : 0 < i → Prior centroids labels at held
 
   pub record Running (centroids : List Row) (labels at : List ℕ) (held : ℕ) (cursor : Cursor) (i : ℕ) : Type 0 where
@@ -215,40 +244,35 @@ module _ (draws : List ℕ) (k dim block : ℕ) (training : List Row) (total : �
     within = omega arith;
     inside = h;
     fits = omega arith;
-    left = λ n p. let z : total - 0 ≡ total = omega arith in record { made = n; place = p; done = rw z; prior = λ l. absurd (not-suc-le-zero l) };
+    left = λ n p. record { onward = onward-start n p; prior = λ l. absurd (not-suc-le-zero l) };
   }
 
   module _ {centroids : List Row} {labels at : List ℕ} {held : ℕ} {cursor : Cursor} {i : ℕ} (h : Running centroids labels at held cursor i) where
     pub running-step : (centroids' : List Row) (labels' at' : List ℕ) (r : Iterated) (again : Bool) → i < total
         → Iteration draws k dim block training centroids centroids' labels labels' at at' held again cursor r → r .settled ≡ false → Running centroids' labels' at' (r .held) (r .cursor) (i + 1)
-    unfolding iterate
-    running-step centroids' labels' at' r again l t e = record {
-      within = omega arith;
-      inside = t .1 .1 .0 e .inside;
-      fits = t .0 .1;
-      left = λ n p.
-          let old = h .left n p in
-          let w = t .1 .1 .0 e .steps (old .made) (old .place) in
-          let z : total - i ≡ suc (total - (i + 1)) = omega arith in
-          let d : iterate draws k dim block training (total - (i + 1)) (update draws k dim block training (old .made) (nearests centroids training)) ≡ iterate draws k dim block training total (record { centroids = centroids₀; made = n })
-          = rw z at (old .done) in
-          record {
-            made = drawsAfter (old .made) (take (r .held) at') (countsFrom (replicate k 0) labels');
-            place = w .1;
-            done = rw (w .0) (rw (t .1 .0 (old .made)) at d);
-            prior = λ q. record { after = old .made; gave = w .0 };
-          };
-    }
+    running-step centroids' labels' at' r again l t e =
+        let d = t .1 .1 .0 e in
+        record {
+          within = omega arith;
+          inside = d .inside;
+          fits = t .0 .1;
+          left = λ n p.
+              let o = h .left n p .onward in
+              record {
+                onward = onward-step o l (record { inside = d .inside; steps = λ m q. rw (t .1 .0 m) (d .steps m q) });
+                prior = λ q. record { after = o .made; gave = d .steps (o .made) (o .place) .0 };
+              };
+        }
 
     pub running-stop : (centroids' : List Row) (labels' at' : List ℕ) (r : Iterated) → i < total
         → Iteration draws k dim block training centroids centroids' labels labels' at at' held (ltb 0 i) cursor r → r .settled ≡ true → Fitted draws k dim block training total centroids₀ c₀ centroids' (r .cursor)
     running-stop centroids' labels' at' r l t e = record {
       inside = rw (t .1 .1 .1 .1 e .1) (h .inside);
       steps = λ n p.
-          let old = h .left n p in
+          let old = h .left n p .onward in
           let s = t .1 .1 .1 .0 e in
           let o = t .1 .1 .1 .1 e in
-          let q = old .prior (ltb-true 0 i (s .0)) in
+          let q = h .left n p .prior (ltb-true 0 i (s .0)) in
           let counts : List ℕ = countsFrom (replicate k 0) labels' in
           let sums : List Row = sumsFrom (replicate k (zeroRow dim)) labels' training in
           let g = settles draws training (old .made) (q .after) (take (r .held) at') (take held at) counts sums (s .1 .1) in
@@ -259,12 +283,4 @@ module _ (draws : List ℕ) (k dim block : ℕ) (training : List Row) (total : �
     }
 
     pub running-end : total ≤ i → Fitted draws k dim block training total centroids₀ c₀ centroids cursor
-    unfolding iterate
-    running-end l = record {
-      inside = h .inside;
-      steps = λ n p.
-          let old = h .left n p in
-          let z : total - i ≡ 0 = omega arith in
-          let x = rw z at (old .done) in
-          (ap (λ (y : Fit). y .centroids) x, old .place ∙ ap (λ (y : Fit). cursorAt draws (y .made)) x);
-    }
+    running-end l = record { inside = h .inside; steps = λ n p. onward-end (h .left n p .onward) l }

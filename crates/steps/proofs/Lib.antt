@@ -6,3 +6,4 @@ pub mod Sorts
 pub mod Selects
 pub mod Iterations
 pub mod Sizes
+pub mod Alikes

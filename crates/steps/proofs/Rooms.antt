@@ -1,7 +1,11 @@
 -- The lengths that an iteration's contract asks for, one by one: what a list of lengths says, and back. Assumes nothing.
 use mathlib.Core.Path.{_≡_}
-use mathlib.Core.List.{List, [], _∷_}
+use mathlib.Core.List.{[], _∷_}
 use Prim.Native.Nat.{ℕ, _*_, _≤_, _<_}
+use native.Mathlib.Nat.{mul-le-mul}
+use lib.Ieee.{binary32, ofBits}
+use lib.ListN.{length, take, replicate}
+use lib.Seq.{length-take-le}
 use Rattle.steps.specs.Inside.{Limits, roomOf}
 
 -- how long the slices of an iteration over `rows` training rows are
@@ -42,3 +46,14 @@ module _ {dim rows k block training own centroids distances : ℕ} where
     (((r .some-dim, r .small-dim), ((r .some, r .few), r .few-rows)), (r .some-rows, r .some-block)),
     rw (r .training-cells, r .own-cells, r .centroid-cells, r .distance-cells),
   )
+
+-- parts of local arrays, as long as the clusters call for
+module _ {dim rows k block training own centroids distances : ℕ} (r : Room dim rows k block training own centroids distances) where
+  pub width-fits : k * dim ≤ 4096
+  width-fits = mul-le-mul (r .few) (r .small-dim)
+
+  pub counts-lent : length {A = ℕ} (take k (replicate 64 0)) ≡ k
+  counts-lent = length-take-le k (replicate 64 0) (r .few)
+
+  pub width-lent : length (take (k * dim) (replicate 4096 (ofBits binary32 0))) ≡ k * dim
+  width-lent = length-take-le (k * dim) (replicate 4096 (ofBits binary32 0)) width-fits

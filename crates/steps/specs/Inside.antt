@@ -4,9 +4,13 @@ use mathlib.Core.Bool.{Bool, true, false, _&&_}
 use mathlib.Core.List.{List, [], _∷_}
 use Prim.Native.Nat.{ℕ, zero, suc, _*_, _≤_, _<_}
 use lib.Dec.{eqb}
-use lib.ListN.{length, getD}
+use lib.ListN.{length, getD, take, replicate}
 use lib.Ieee.{Float}
+use Rattle.sums.specs.Rows.{Row}
+use Rattle.sums.specs.Sums.{zeroRow}
 use Rattle.sums.specs.Cells.{Below}
+use Rattle.pool.specs.Pool.{pool}
+use Rattle.steps.specs.Steps.{sumsFrom}
 
 -- the values of a row, the clusters and the rows are within 01's ranges
 abbrev pub Limits : ℕ → ℕ → ℕ → Type 0
@@ -31,3 +35,10 @@ repeats (suc c ∷ counts) new old = repeats counts new old
 repeats (zero ∷ counts) [] old = false
 repeats (zero ∷ counts) (p ∷ new) [] = false
 repeats (zero ∷ counts) (p ∷ new) (q ∷ old) = eqb p q && repeats counts new old
+
+-- what stands for `count` rows that are all one row: their sum, and a position for each of the first k of their pool
+pub record Alike (k dim block count : ℕ) (row sum : Row) (spare : List ℕ) : Type 0 where
+  pub some : 0 < count
+  pub summed : sumsFrom (zeroRow dim ∷ []) (replicate count 0) (replicate count row) ≡ sum ∷ []
+  pub first : Below 1 spare
+  pub pooled : (distances : List Float) → length distances ≡ count → length (take k (pool block distances)) ≡ length spare

@@ -11,7 +11,7 @@ use Rattle.sums.specs.Ordering.{ascending}
 use Rattle.sums.specs.Draws.{drawn, pick}
 use Rattle.labels.specs.declared.nearest.Nearest.{Nearest}
 use Rattle.labels.specs.Label.{nearests, labelsOf, distancesOf}
-use Rattle.labels.specs.Pool.{pool}
+use Rattle.pool.specs.Pool.{pool}
 
 -- ---- step 1: the rows that train
 

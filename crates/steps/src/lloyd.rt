@@ -9,19 +9,24 @@ ghost use Rattle.sums.specs.Cells.{Below};
 ghost use Rattle.sums.specs.Sums.{zeroRow};
 ghost use Rattle.sums.specs.Draws.{Drawn};
 ghost use Rattle.labels.specs.Label.{nearests, labelsOf};
-ghost use Rattle.labels.specs.Pool.{pool as Pool·pool};
+ghost use Rattle.pool.specs.Pool.{pool as Pool·pool};
 ghost use Rattle.labels.specs.Inside.{normsOf};
 ghost use Rattle.steps.specs.Steps.{countsFrom, sumsFrom, updateFrom, drawsAfter, update as Steps·update, iterate};
 ghost use Rattle.steps.specs.Inside.{Limits, Filled, repeats, roomOf};
 use crate::update;
 use labels::nearest;
-use labels::pool;
 use sums::cells;
 use sums::draws::Cursor;
 use sums::math;
 
 // How many rows each cluster has, and their sums.
-fn accumulate(training: &[f32], dim: usize, labels: &[u16], counts: &mut [u16], totals: &mut [f32])
+pub fn accumulate(
+    training: &[f32],
+    dim: usize,
+    labels: &[u16],
+    counts: &mut [u16],
+    totals: &mut [f32],
+)
     requires { ⌜ (length (now training) ≡ length (now labels) * dim) × (length (now totals) ≡ length (now counts) * dim) ⌝ }
     requires { ⌜ Below (length (now counts)) (now labels) × (length (now labels) ≤ 65535) ⌝ }
     ensures { λ _. ⌜ now (counts .exit) ≡ countsFrom (replicate (length (now (counts .entry))) 0) (now (labels .entry)) ⌝ }
@@ -228,7 +233,7 @@ fn run_iterations(
 }
 
 // The same with the clusters' counts, sums and positions at hand.
-pub fn run_lloyd_iterations(
+pub fn run_any(
     iterations: usize,
     training: &[f32],
     own: &[f32],

@@ -10,8 +10,8 @@ ghost use Rattle.sums.specs.Draws.{Drawn};
 ghost use Rattle.steps.specs.Steps.{timesInverse, updateFrom, drawsAfter};
 ghost use Rattle.steps.specs.Inside.{Sources};
 use crate::training;
-use labels::positions;
-use labels::positions::TrainingPosition;
+use pool::positions;
+use pool::positions::TrainingPosition;
 use sums::draws::Cursor;
 
 // Each sum times the inverse of the count, and not divided by it.

@@ -1,13 +1,14 @@
 -- The order of floats, for all of them: with a NaN no premise holds. Assumes nothing.
 use mathlib.Core.Path.{_≡_, refl, ap, sym, _∙_}
-use mathlib.Core.Bool.{Bool, true, false, not, _&&_, _||_, Bool·beq, or-true, false≢true}
+use mathlib.Core.Bool.{Bool, true, false, not, _&&_, _||_, or-true, false≢true}
 use mathlib.Core.Logic.{_⊎_, inl, inr}
-use Prim.Native.Nat.{ℕ, zero, suc, _+_, _*_, _<_, _≤_}
-use native.Mathlib.Nat.{zero-mul, mul-comm, mul-assoc, mul-left-comm, add-mul, mul-le-mul-right, mul-lt-mul-of-pos-right, lt-of-mul-lt-mul-right}
+use Prim.Native.Nat.{ℕ, _+_, _*_, _<_, _≤_}
+use native.Mathlib.Nat.{zero-mul, mul-comm, mul-assoc, add-mul, mul-le-mul-right, mul-lt-mul-of-pos-right, lt-of-mul-lt-mul-right}
 use native.Mathlib.Omega.{arith}
-use lib.Dec.{T, ltb, leb, eqb}
+use lib.Dec.{ltb, eqb}
 use lib.Ieee.{Float, nan, inf, fin, lt, le, eq, up, down, below, level, isNan}
 use lib.Ieee.Fits.{down-pos}
+use Rattle.sums.proofs.Refusing.{both}
 use borrow.Author.Tests.{ltb-true, ltb-false, lt-ltb, le-ltb, eqb-true, eq-eqb, not-true}
 
 pub ltb-asym : (a b : ℕ) → ltb a b ≡ true → ltb b a ≡ false
@@ -51,15 +52,11 @@ lt-below false a true b h = absurd (omega arith)
 lt-below true a false b h = lt-ltb 0 (a + b) (omega arith)
 lt-below true a true b h = lt-ltb b a (omega arith)
 
-and-both : (a b : Bool) → a && b ≡ true → (a ≡ true) × (b ≡ true)
-and-both true b e = (refl, e)
-and-both false b e = absurd (false≢true e)
-
 level-eq : (s : Bool) (a : ℕ) (t : Bool) (b : ℕ) → level s a t b ≡ true → own s a + other t b ≡ own t b + other s a
-level-eq false a false b e = omega (arith, eqb-true a b (and-both (eqb a b) true e .0))
-level-eq false a true b e = omega (arith, eqb-true a b (and-both (eqb a b) (eqb a 0) e .0), eqb-true a 0 (and-both (eqb a b) (eqb a 0) e .1))
-level-eq true a false b e = omega (arith, eqb-true a b (and-both (eqb a b) (eqb a 0) e .0), eqb-true a 0 (and-both (eqb a b) (eqb a 0) e .1))
-level-eq true a true b e = omega (arith, eqb-true a b (and-both (eqb a b) true e .0))
+level-eq false a false b e = omega (arith, eqb-true a b (both (eqb a b) true e .0))
+level-eq false a true b e = omega (arith, eqb-true a b (both (eqb a b) (eqb a 0) e .0), eqb-true a 0 (both (eqb a b) (eqb a 0) e .1))
+level-eq true a false b e = omega (arith, eqb-true a b (both (eqb a b) (eqb a 0) e .0), eqb-true a 0 (both (eqb a b) (eqb a 0) e .1))
+level-eq true a true b e = omega (arith, eqb-true a b (both (eqb a b) true e .0))
 
 or-either : (a b : Bool) → a || b ≡ true → (a ≡ true) ⊎ (b ≡ true)
 or-either true b e = inl refl

@@ -1,15 +1,15 @@
 -- Fronts and rests of lists, under a map too, and what is lent of an array or put back into it. Assumes nothing.
-use Prim.Native.Nat.{ℕ, zero, suc, _+_, _-_, _≤_, _<_, suc-le-suc, zero-le}
+use Prim.Native.Nat.{ℕ, zero, suc, _+_, _-_, _≤_, suc-le-suc, zero-le}
 use mathlib.Core.Path.{_≡_, refl, sym, ap, _∙_}
 use mathlib.Core.Bool.{Bool, true, false}
-use mathlib.Core.List.{List, [], _∷_, _++_, map, flatMap, append-assoc}
+use mathlib.Core.List.{List, [], _∷_, _++_, flatMap, append-assoc}
 use native.Mathlib.Nat.{not-suc-le-zero, le-of-suc-le-suc, add-sub-cancel-left}
 use native.Mathlib.Omega.{arith}
 use borrow.Author.Tests.{leb-true, leb-false}
-use borrow.Rule.Slice.PartMut.{putMid}
+use borrow.Rule.Slice.PartMut.{midOf, putMid}
 use lib.Dec.{leb}
-use lib.ListN.{length, take, drop, length-append, length-drop}
-use lib.Seq.{take-nil, take-take, take-all, take-at, length-take-le}
+use lib.ListN.{length, take, drop, length-append, length-drop, drop-of-length-le}
+use lib.Seq.{take-nil, take-take, take-all, take-at, drop-at, length-take-le}
 use Rattle.sums.specs.Tables.{tabulate}
 use Rattle.sums.proofs.Tables.{tab-add, length-tab}
 
@@ -36,6 +36,15 @@ module _ {A : Type 0} where
           let e : a - (a - length l) ≡ length l = omega (arith, k) in
           rw e (take-all (length l) l (omega arith) ∙ sym (take-all a l (omega (arith, k))))
 
+  pub drop-least : (a : ℕ) (l : List A) → drop (length l - (length l - a)) l ≡ drop a l
+  drop-least a l = go (leb a (length l)) refl
+    where
+      go : (b : Bool) → leb a (length l) ≡ b → drop (length l - (length l - a)) l ≡ drop a l
+      go true h = let e : length l - (length l - a) ≡ a = omega (arith, leb-true a (length l) h) in rw e
+      go false h =
+          let k = leb-false a (length l) h in
+          drop-of-length-le l {i = length l - (length l - a)} (omega (arith, k)) ∙ sym (drop-of-length-le l {i = a} (omega (arith, k)))
+
   -- a part of a front is a part of the whole
   pub part-of-front : (m p c : ℕ) (l : List A) → p + m ≤ c → take m (drop p (take c l)) ≡ take m (drop p l)
   part-of-front m zero c l h = take-take m c l (omega arith)
@@ -48,6 +57,14 @@ module _ {A : Type 0} where
   length-cut zero l = omega arith
   length-cut (suc n) [] = omega arith
   length-cut (suc n) (x ∷ l) = omega (arith, length-cut n l)
+
+  -- the part of a list after pre, lent and put back
+  module _ (whole pre s post : List A) (from k : ℕ) (e : whole ≡ pre ++ (s ++ post)) (l : length pre ≡ from) (l′ : length s ≡ k) where
+    pub mid-at : midOf from k whole ≡ s
+    mid-at = rw (e, drop-at pre (s ++ post) from l) (take-at s post k l′)
+
+    pub put-at : (t : List A) → putMid from k whole t ≡ pre ++ (t ++ post)
+    put-at t = rw (e, take-at pre (s ++ post) from l, drop-at pre (s ++ post) from l, drop-at s post k l′)
 
   -- what stands up to the end of a part that was put back
   pub put-front : (a w : ℕ) (l xs : List A) → a ≤ length l → length xs ≡ w → take (a + w) (putMid a w l xs) ≡ take a l ++ xs
@@ -73,6 +90,13 @@ module _ {A : Type 0} where
       record { fits = omega (arith, length-append l rest); is = take-at l rest n k ∙ e; long = ap length (take-at l rest n k) ∙ k }
 
 module _ {A : Type 0} where
+  -- n of the m that a list has are lent
+  pub lent-fits : (n m : ℕ) (l : List A) → m ≡ length l → n ≤ m → n ≤ length l
+  lent-fits n m l e h = omega arith
+
+  pub lent-front : (n m : ℕ) (l : List A) → m ≡ length l → n ≤ m → length (take n l) ≡ n
+  lent-front n m l e h = length-take-le n l (lent-fits n m l e h)
+
   -- a front part that comes back as long as it was lent leaves the list as long as it was
   pub front-back : (n : ℕ) (l xs : List A) → n ≤ length l → length xs ≡ length (take n l) → length (xs ++ drop n l) ≡ length l
   front-back n l xs h e = length-append xs (drop n l) ∙ omega (arith, length-take-le n l h, length-drop n l, e)

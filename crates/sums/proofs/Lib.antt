@@ -14,3 +14,4 @@ pub mod Counts
 pub mod Picks
 pub mod NanBits
 pub mod Refusing
+pub mod Sames

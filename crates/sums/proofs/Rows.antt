@@ -5,11 +5,12 @@ use mathlib.Core.List.{List, [], _∷_, _++_, map, append-assoc, flatten}
 use native.Mathlib.Nat.{zero-add, add-mul-div-right, add-mul-mod-self-right, div-eq-of-lt, mod-eq-of-lt, suc-mul, zero-mul, mul-le-mul-right, le-of-suc-le-suc, not-suc-le-zero, add-sub-cancel-left, add-comm}
 use native.Mathlib.Omega.{arith}
 use lib.ListN.{length, getD, set, take, drop, length-drop, replicate, length-replicate, replicate-append-replicate, take-append-drop}
-use lib.Seq.{take-at, drop-at, take-add, drop-drop, length-take-le}
+use lib.Seq.{take-at, take-take, drop-at, take-add, drop-drop, length-take-le}
 use borrow.Rule.Slice.PartMut.{putMid}
 use Rattle.sums.specs.Tables.{tabulate}
 use Rattle.sums.specs.Rows.{rowsFrom, rowAt}
 use Rattle.sums.proofs.Tables.{tab-same, tab-front}
+use Rattle.sums.proofs.Fronts.{drop-take}
 
 -- row j of k rows lies inside
 pub room : (j k dim : ℕ) → j < k → j * dim + dim ≤ k * dim
@@ -36,6 +37,14 @@ module _ {A : Type 0} where
   row-at dim (suc n) values zero d h = rw zero-mul
   row-at dim (suc n) values (suc i) d h =
       row-at dim n (drop dim values) i d (le-of-suc-le-suc h) ∙ rw (drop-drop (i * dim) dim values, suc-mul, add-comm dim (i * dim))
+
+  -- rows are read off a front that has them all
+  pub rows-front : (dim n m : ℕ) (values : List A) → n * dim ≤ m → rowsFrom dim n (take m values) ≡ rowsFrom dim n values
+  unfolding rowsFrom
+  rows-front dim zero m values h = refl
+  rows-front dim (suc n) m values h =
+      let k : dim + n * dim ≤ m = omega (arith, h, suc-mul n dim) in
+      rw (take-take dim m values (omega (arith, k)), drop-take dim m values (omega (arith, k)), rows-front dim n (m - dim) (drop dim values) (omega (arith, k)))
 
   -- row i overwritten in the flat list is row i set in the list of rows
   pub rows-put : (dim n : ℕ) (values : List A) (i : ℕ) (row : List A) → i < n → n * dim ≤ length values → length row ≡ dim

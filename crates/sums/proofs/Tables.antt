@@ -6,9 +6,9 @@ use mathlib.Core.List.{List, [], _∷_, _++_, map, map-append, append-nil, appen
 use native.Mathlib.Numerals.{add-one}
 use native.Mathlib.Nat.{not-suc-le-zero, eq-or-lt-of-le, le-of-suc-le-suc, add-zero, add-suc}
 use native.Mathlib.Omega.{arith}
-use lib.ListN.{length, getD, take, drop, set, length-append, length-drop, List·getD-append, drop-of-length-le, replicate, replicate-append-replicate}
+use lib.ListN.{length, getD, take, drop, set, length-append, List·getD-append, drop-of-length-le, replicate, replicate-append-replicate}
 use Rattle.sums.specs.Tables.{tabulate, upTo}
-use lib.Seq.{take-suc-set, take-all, getD-at, set-at, drop-cons, append-snoc}
+use lib.Seq.{take-suc, take-suc-set, take-all, getD-at, set-at, drop-cons, append-snoc}
 
 module _ {A : Type 0} where
   pub length-tab : (f : ℕ → A) (n : ℕ) → length (tabulate f n) ≡ n
@@ -39,6 +39,11 @@ module _ {A : Type 0} where
   tab-add f n zero = rw (add-zero, append-nil)
   tab-add f n (suc m) = rw (add-suc n m, tab-add f n m, append-assoc)
 
+  -- the first n of a list, by index
+  pub take-tab : (l : List A) (n : ℕ) (d : A) → n ≤ length l → tabulate (λ i. getD l i d) n ≡ take n l
+  take-tab l zero d h = refl
+  take-tab l (suc n) d h = rw (take-tab l n d (omega arith), take-suc l n d h)
+
   -- ---- a loop that goes over l₀ in place: done so far, then what l₀ still has
   pub over-read : (f : ℕ → A) (l₀ : List A) (i : ℕ) (d : A) → i < length l₀ → getD (tabulate f i ++ drop i l₀) i d ≡ getD l₀ i d
   over-read f l₀ i d h = rw (drop-cons l₀ i d h) (getD-at (tabulate f i) (getD l₀ i d) _ d i (length-tab f i))
@@ -67,6 +72,9 @@ module _ {A B : Type 0} where
   pub map-index : (f : A → B) (l : List A) (d : A) → map f l ≡ tabulate (λ i. f (getD l i d)) (length l)
   map-index f [] d = refl
   map-index f (x ∷ l) d = rw (map-index f l d) (sym (tab-front (λ i. f (getD (x ∷ l) i d)) (length l)))
+
+  pub map-at : (f : A → B) (l : List A) (i : ℕ) (d : A) (e : B) → i < length l → getD (map f l) i e ≡ f (getD l i d)
+  map-at f l i d e h = rw (map-index f l d) (getD-tab (λ j. f (getD l j d)) (length l) i e h)
 
 pub up-length : (n : ℕ) → length (upTo n) ≡ n
 up-length n = length-tab (λ i. i) n

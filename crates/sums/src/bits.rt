@@ -1,6 +1,6 @@
-// Floats out of their bits.
+// Floats and their bits.
 ghost use mathlib.Core.Path.{_≡_};
-ghost use lib.Ieee.{binary32, ofBits};
+ghost use lib.Ieee.{binary32, ofBits, toBits};
 
 // The float of any pattern: `f32::from_bits` is not defined at a NaN's.
 pub fn float_of(bits: u32) -> f32
@@ -10,4 +10,14 @@ pub fn float_of(bits: u32) -> f32
         return 0.0f32 / 0.0f32;
     }
     f32::from_bits(bits)
+}
+
+// `f32::to_bits` is not defined at a NaN; this is the pattern that the definition writes for it.
+pub fn bits_of(x: f32) -> u32
+    ensures { λ r. ⌜ r ≡ toBits binary32 x ⌝ }
+{
+    if x != x {
+        return 0x7fc0_0000;
+    }
+    f32::to_bits(x)
 }

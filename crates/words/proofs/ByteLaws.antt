@@ -1,28 +1,45 @@
 -- Words and floats by index; four bytes read, two written. Assumes nothing.
-use Prim.Native.Nat.{ℕ, zero, suc, _+_, _*_, _/_, _%_, _≤_, _<_}
-use mathlib.Core.Path.{_≡_, refl, sym, ap, _∙_}
-use mathlib.Core.Bool.{Bool, true, false, not, false≢true}
-use mathlib.Core.List.{List, [], _∷_, _++_, map, map-append}
-use native.Mathlib.Nat.{add-mul, one-mul, suc-mul, mul-le-mul-right, zero-mul, add-comm, add-assoc}
+use Prim.Native.Nat.{ℕ, suc, _+_, _*_, _≤_, _<_}
+use mathlib.Core.Path.{_≡_, refl, ap, _∙_}
+use mathlib.Core.List.{List, [], _∷_, _++_, map}
 use native.Mathlib.Numerals.{add-one}
 use native.Mathlib.Omega.{arith}
-use borrow.Author.Tests.{lt-ltb, le-ltb}
-use lib.Dec.{T, ltb}
 use lib.ListN.{length, take, drop, getD, set, length-append}
-use lib.Seq.{drop-cons, drop-drop, set-split, set-at, append-snoc, length-take-le}
-use lib.Ieee.{Float, nan, inf, fin, binary32, ofBits, isNan, nanBits}
-use lib.Ieee.Bits.{nanBits-is, nanBits-above}
-use Rattle.sums.specs.Rows.{rowsFrom}
+use lib.Seq.{drop-cons, set-split, set-at, append-snoc, length-take-le}
+use lib.Ieee.{Float, binary32, ofBits}
 use Rattle.words.specs.Bytes.{numberOf, u32At, wordsFrom, floatsFrom}
 use Rattle.sums.specs.Tables.{tabulate}
-use Rattle.sums.proofs.Tables.{map-tab}
-use Rattle.sums.proofs.Rows.{map-rows}
+use Rattle.sums.proofs.Tables.{map-tab, length-tab, getD-tab}
+use Rattle.sums.proofs.Rows.{map-rows, rows-front}
 
 pub words-tab : (n : ℕ) (bytes : List ℕ) → wordsFrom n bytes ≡ tabulate (λ i. u32At bytes (i * 4)) n
 words-tab n bytes = map-rows numberOf 4 n bytes
 
 pub floats-tab : (n : ℕ) (bytes : List ℕ) → floatsFrom n bytes ≡ tabulate (λ i. ofBits binary32 (u32At bytes (i * 4))) n
 floats-tab n bytes = rw (words-tab n bytes) (map-tab (ofBits binary32) (λ i. u32At bytes (i * 4)) n)
+
+pub words-length : (n : ℕ) (bytes : List ℕ) → length (wordsFrom n bytes) ≡ n
+words-length n bytes = ap length (words-tab n bytes) ∙ length-tab _ n
+
+pub floats-length : (n : ℕ) (bytes : List ℕ) → length (floatsFrom n bytes) ≡ n
+floats-length n bytes = ap length (floats-tab n bytes) ∙ length-tab _ n
+
+pub word-at : (n : ℕ) (bytes : List ℕ) (i : ℕ) → i < n → getD (wordsFrom n bytes) i 0 ≡ u32At bytes (i * 4)
+word-at n bytes i h = rw (words-tab n bytes) (getD-tab (λ i. u32At bytes (i * 4)) n i 0 h)
+
+-- ---- words and floats of a front that has them all
+words-front : (n m : ℕ) (bytes : List ℕ) → n * 4 ≤ m → wordsFrom n (take m bytes) ≡ wordsFrom n bytes
+words-front n m bytes h = ap (map numberOf) (rows-front 4 n m bytes h)
+
+floats-front : (n m : ℕ) (bytes : List ℕ) → n * 4 ≤ m → floatsFrom n (take m bytes) ≡ floatsFrom n bytes
+floats-front n m bytes h = ap (map (ofBits binary32)) (words-front n m bytes h)
+
+-- what was read into a slice out of so many bytes
+pub words-read : (n m count : ℕ) (bytes l : List ℕ) → l ≡ wordsFrom n (take m bytes) → n ≡ count → count * 4 ≤ m → l ≡ wordsFrom count bytes
+words-read n m count bytes l e f h = e ∙ rw f (words-front count m bytes h)
+
+pub floats-read : (n m count : ℕ) (bytes : List ℕ) (l : List Float) → l ≡ floatsFrom n (take m bytes) → n ≡ count → count * 4 ≤ m → l ≡ floatsFrom count bytes
+floats-read n m count bytes l e f h = e ∙ rw f (floats-front count m bytes h)
 
 -- ---- four bytes
 next : (l : List ℕ) (i j : ℕ) → j ≡ i + 1 → i < length l → drop i l ≡ getD l i 0 ∷ drop j l

@@ -8,7 +8,7 @@ use Rattle.sums.specs.Ordering.{place, orderFrom, keep}
 use Rattle.sums.specs.Draws.{drawn, exchange, exchangesFrom, pick}
 use Rattle.sums.specs.Refusals.{sameAll, lowestFrom, unless, onAccepted}
 use Rattle.labels.specs.Label.{scoreFrom, score, better, nearestFrom, nearest, nearests}
-use Rattle.labels.specs.Pool.{farther, blockPool, blockPools, pool}
+use Rattle.pool.specs.Pool.{farther, blockPool, blockPools, pool}
 use Rattle.labels.specs.Call.{labelRefusal, labelCall}
 use Rattle.steps.specs.Steps.{target, trainingIf, countsFrom, sumsFrom, timesInverse, updateFrom, drawsAfter, update, objectiveFrom}
 use Rattle.kmeans.specs.KMeans.{firstFit, resultOf, keepBetter, fitOf, restartsFrom, restartsOf, kmeans}
@@ -17,7 +17,7 @@ use Rattle.closure.specs.Closure.{nearer, reachOf, listed, closure, anyNan, uno
 use Rattle.closure.specs.Call.{closureRefusal, answered, closureCall}
 use Rattle.parts.specs.Parts.{having, flat}
 use Rattle.parts.specs.Balance.{allowed, seek, closestFrom, closestOf, balanced, moves}
-use Rattle.grouping.specs.Groups.{balanceIf, waits, pushed, after, front, back, groupFrom, meanOf}
+use Rattle.splitting.specs.Groups.{balanceIf, waits, pushed, after, front, back, groupFrom, meanOf}
 use Rattle.grouping.specs.Call as call
 
 unfoldable pub opened : Unit {0}

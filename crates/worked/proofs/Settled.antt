@@ -16,7 +16,7 @@ use Rattle.labels.specs.Label.{nearests}
 use Rattle.steps.specs.Steps.{Fit, update, iterate}
 use Rattle.steps.proofs.Iterations.{fixed}
 use Rattle.parts.specs.Balance.{share}
-use Rattle.grouping.specs.Groups.{Rule, balanceIf, partsOf, madeBy, splitFrom}
+use Rattle.splitting.specs.Groups.{Rule, balanceIf, partsOf, madeBy, splitFrom}
 use Rattle.worked.specs.Table.{half}
 use Rattle.worked.proofs.Opened.{opened}
 

@@ -16,7 +16,7 @@ use Rattle.kmeans.specs.Call.{lengthsOf as KMeans·lengthsOf, kmeansCall}
 use Rattle.closure.specs.Call.{closureCall}
 use Rattle.parts.specs.Parts.{sizesOf}
 use Rattle.parts.specs.Balance.{share, allowed, balance, moves, toward}
-use Rattle.grouping.specs.Groups.{Groups}
+use Rattle.splitting.specs.Groups.{Groups}
 use Rattle.grouping.specs.Call.{lengthsOf, groupingCall}
 
 -- `fin false m e` is m·2^e, and `fin true m e` its opposite; `negsuc n` is the exponent -(n + 1)

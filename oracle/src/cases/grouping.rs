@@ -219,6 +219,9 @@ impl Case for GroupingCase {
             Self::simple(&[], 2, 2, 0.0, 0),
             Self::simple(&[1.0, 2.0, 2.0], 3, 2, 0.0, 0),
             Self::simple(&[0.0, 1.0, 2.0, 3.0, 7.0], 4, 2, 0.0, 1),
+            // Equal rows that only balancing parts, with fewer and with more parts than the pool has rows.
+            Self::simple(&[0.1; 90], 40, 2, 0.25, 90),
+            Self::simple(&[0.1; 90], 40, 16, 0.25, 90),
             // The largest budget, used up by rows that never part.
             Self::simple(&[3.0; 2], 1, 2, 0.0, SPLIT_BUDGET.high),
         ];

@@ -199,7 +199,18 @@ impl Case for KMeansCase {
     }
 
     fn built() -> Vec<Self> {
+        // One row over and over: its mean rounds to another, refills outnumber the pool, and the next restart draws on.
+        let mut drawn = Self::simple(&[0.1; 20], 12, 25, 5);
+        drawn.numbers.restarts = 3;
+        drawn.draws = (0..7).map(|i| i * 3).collect();
         vec![
+            drawn,
+            Self::simple(&[0.1; 20], 2, 25, 32_768),
+            Self::simple(&[0.1; 20], 2, 24, 32_768),
+            // Rows that are equal as numbers only, and rows that no score is below infinity for.
+            Self::simple(&[0.0, -0.0, 0.0, -0.0], 3, 25, 32_768),
+            Self::simple(&[f32::NAN; 4], 3, 25, 2),
+            Self::simple(&[f32::INFINITY; 4], 3, 25, 2),
             Self::nan_objective(true),
             Self::nan_objective(false),
             // P10, and the ten equal rows of "Run" with one block and with two.

@@ -1,23 +1,23 @@
-use Rattle.grouping.specs.Inside.{ruleOf}
-use Rattle.grouping.specs.Groups.{Groups, grouping}
+use Rattle.splitting.specs.Inside.{ruleOf}
+use Rattle.splitting.specs.Groups.{Groups, grouping}
 use Rattle.sums.specs.Rows.{rowsFrom}
 use Rattle.sums.specs.Refusals.{Answer}
 use lib.Seq.{length-take-le}
-use Rattle.grouping.proofs.Rooms.{group-in}
-use Rattle.grouping.proofs.Calls.{Fitting, fitting, gives-refused, called-is, room-at, grouped-at, gives-called}
+use Rattle.splitting.proofs.Rooms.{group-in, room-at}
+use Rattle.splitting.proofs.Acceptances.{grouped-at}
+use Rattle.grouping.proofs.Calls.{Fitting, fitting, gives-refused, called-is, gives-called}
 use lib.ListN.{length, take, replicate}
 use Rattle.sums.specs.Tables.{upTo}
 use mathlib.Core.List.{List, [], _∷_}
 use mathlib.Core.Path.{_≡_, sym, ap, _∙_}
 use Prim.Native.Nat.{ℕ, _≤_}
-use borrow.Author.Needs.{needs}
 use native.Mathlib.Omega.{arith}
 use Rattle.grouping.proofs.call.answer.Statement.{statement}
 use Rattle.grouping.proofs.call.answer.Tie as tie
 use Rattle.grouping.proofs.call.answer.Reads as reads
 use Rattle.grouping.proofs.call.answer.Lts as lts
 use Rattle.grouping.proofs.call.finish.Reads as finish-reads
-use Rattle.grouping.proofs.waiting.cluster.Reads as cluster-reads
+use Rattle.splitting.proofs.waiting.cluster.Reads as cluster-reads
 use Rattle.sums.proofs.cells.count_up.Reads as count-up-reads
 
 -- the lengths of what was lent
@@ -81,7 +81,7 @@ finish-requires c κs =
     let l : length (w .last .1 .1 .1 .1 .1 .1 .0) ≡ length (u .last .0) = w .kept .1 .1 .1 .1 .1 .1 .0 in
     let o : length (w .last .1 .1 .1 .1 .1 .1 .0) ≡ z .args .rows = l ∙ (u .kept .0 ∙ f .order-is) in
     let e : length (w .last .1 .1 .1 .1 .1 .1 .1 .0) ≡ z .args .rows = w .kept .1 .1 .1 .1 .1 .1 .1 .0 ∙ (group-in (f .limits, f .room)) .end-cells in
-    (((group-in (f .limits, f .room)) .value-cells ∙ rw o, (f .mean-cells ∙ rw o, (e ∙ sym o, rw o (f .limits .1 .1)))), ((_, grouped-at _ l (w .ensures)), z .pre .1 .1 .1))
+    (((group-in (f .limits, f .room)) .work .value-cells ∙ rw o, (f .mean-cells ∙ rw o, (e ∙ sym o, rw o (f .limits .1 .1)))), ((_, grouped-at _ l (w .ensures)), z .pre .1 .1 .1))
 
 -- src/call.rt:155:1
 same-length : tie.Need-same-length
@@ -89,51 +89,51 @@ same-length c = c .before .before .before .before .before .before .finish .kept 
 
 -- src/call.rt:155:1
 same-length-2 : tie.Need-same-length-2
-same-length-2 c = search needs
+same-length-2 c = c .before .before .before .before .before .before .finish .kept .1 .1 .1 .1 .0 ∙ c .before .before .before .before .before .before .before .before .before .before .before .before .before .before .before .before .before .before .before .before .before .before .before .before .before .before .before .before .before .before .before .before .before .before .before .cluster .kept .1 .1 .1 .1 .1 .1 .1 .0
 
 -- src/call.rt:155:1
 same-length-3 : tie.Need-same-length-3
-same-length-3 c = search needs
+same-length-3 c = c .before .before .before .before .before .before .finish .kept .1 .1 .1 .1 .1 .0
 
 -- src/call.rt:155:1
 same-length-4 : tie.Need-same-length-4
-same-length-4 c = search needs
+same-length-4 c = c .before .before .before .before .before .before .before .before .before .before .before .before .before .before .before .before .before .before .before .before .before .before .before .before .before .before .before .before .before .before .before .before .before .before .before .cluster .kept .1 .1 .1 .1 .1 .1 .1 .1 .1 .0
 
 -- src/call.rt:155:1
 same-length-5 : tie.Need-same-length-5
-same-length-5 c = search needs
+same-length-5 c = c .before .before .before .before .before .before .before .before .before .before .before .before .before .before .before .before .before .before .before .before .before .before .before .before .before .before .before .before .before .before .before .before .before .before .before .cluster .kept .1 .1 .1 .1 .1 .1 .1 .1 .1 .1 .0
 
 -- src/call.rt:155:1
 same-length-6 : tie.Need-same-length-6
-same-length-6 c = search needs
+same-length-6 c = c .before .before .before .before .before .before .before .before .before .before .before .before .before .before .before .before .before .before .before .before .before .before .before .before .before .before .before .before .before .before .before .before .before .before .before .cluster .kept .1 .1 .1 .1 .1 .1 .1 .1 .1 .1 .1 .0
 
 -- src/call.rt:155:1
 same-length-7 : tie.Need-same-length-7
-same-length-7 c = search needs
+same-length-7 c = c .before .before .before .before .before .before .before .before .before .before .before .before .before .before .before .before .before .before .before .before .before .before .before .before .before .before .before .before .before .before .before .before .before .before .before .cluster .kept .1 .1 .1 .1 .1 .1 .1 .1 .1 .1 .1 .1 .0
 
 -- src/call.rt:155:1
 same-length-8 : tie.Need-same-length-8
-same-length-8 c = search needs
+same-length-8 c = c .before .before .before .before .before .before .before .before .before .before .before .before .before .before .before .before .before .before .before .before .before .before .before .before .before .before .before .before .before .before .before .before .before .before .before .cluster .kept .1 .1 .1 .1 .1 .1 .1 .1 .1 .1 .1 .1 .1 .0
 
 -- src/call.rt:155:1
 same-length-9 : tie.Need-same-length-9
-same-length-9 c = search needs
+same-length-9 c = c .before .before .before .before .before .before .before .before .before .before .before .before .before .before .before .before .before .before .before .before .before .before .before .before .before .before .before .before .before .before .before .before .before .before .before .cluster .kept .1 .1 .1 .1 .1 .1 .1 .1 .1 .1 .1 .1 .1 .1 .0
 
 -- src/call.rt:155:1
 same-length-10 : tie.Need-same-length-10
-same-length-10 c = search needs
+same-length-10 c = c .before .before .before .before .before .before .before .before .before .before .before .before .before .before .before .before .before .before .before .before .before .before .before .before .before .before .before .before .before .before .before .before .before .before .before .cluster .kept .1 .1 .1 .1 .1 .1 .1 .1 .1 .1 .1 .1 .1 .1 .1 .0
 
 -- src/call.rt:155:1
 same-length-11 : tie.Need-same-length-11
-same-length-11 c = search needs
+same-length-11 c = c .before .before .before .before .before .before .before .before .before .before .before .before .before .before .before .before .before .before .before .before .before .before .before .before .before .before .before .before .before .before .before .before .before .before .before .cluster .kept .1 .1 .1 .1 .1 .1 .1 .1 .1 .1 .1 .1 .1 .1 .1 .1 .0
 
 -- src/call.rt:155:1
 same-length-12 : tie.Need-same-length-12
-same-length-12 c = search needs
+same-length-12 c = c .before .before .before .before .before .before .before .before .before .before .before .before .before .before .before .before .before .before .before .before .before .before .before .before .before .before .before .before .before .before .before .before .before .before .before .cluster .kept .1 .1 .1 .1 .1 .1 .1 .1 .1 .1 .1 .1 .1 .1 .1 .1 .1 .0
 
 -- src/call.rt:155:1
 same-length-13 : tie.Need-same-length-13
-same-length-13 c = search needs
+same-length-13 c = c .before .before .before .before .before .before .before .before .before .before .before .before .before .before .before .before .before .before .before .before .before .before .before .before .before .before .before .before .before .before .before .before .before .before .before .cluster .kept .1 .1 .1 .1 .1 .1 .1 .1 .1 .1 .1 .1 .1 .1 .1 .1 .1 .1 .0
 
 -- src/call.rt:155:1
 returns-2 : tie.Need-returns-2

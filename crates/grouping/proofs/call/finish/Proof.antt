@@ -1,4 +1,5 @@
-use Rattle.grouping.proofs.Calls.{taken, cut, gives-listed, gives-blank}
+use Rattle.splitting.proofs.Acceptances.{taken, cut}
+use Rattle.grouping.proofs.Calls.{gives-listed, gives-blank}
 use lib.ListN.{length}
 use mathlib.Core.Path.{sym, ap, _∙_}
 use native.Mathlib.Omega.{arith}
@@ -7,7 +8,7 @@ use Rattle.grouping.proofs.call.finish.Statement.{statement}
 use Rattle.grouping.proofs.call.finish.Tie as tie
 use Rattle.grouping.proofs.call.finish.Reads as reads
 use Rattle.grouping.proofs.call.finish.Lts as lts
-use Rattle.grouping.proofs.means.fill_means.Reads as fill-means-reads
+use Rattle.splitting.proofs.means.fill_means.Reads as fill-means-reads
 use Rattle.sums.proofs.cells.fill.Reads as fill-reads
 
 -- src/call.rt:142:36

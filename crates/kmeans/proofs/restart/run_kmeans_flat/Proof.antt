@@ -35,17 +35,17 @@ enough : (c : tie.After-target) → c .before .before .before .before .before .b
 enough c = let a = c .before .before .before .before .before .before .before .before .before .before .before .before .args in rw (c .target .ensures) (target-enough (a .k) (a .config .«max_points_per_centroid») (length (a .labels .now)))
 
 within : (c : tie.After-target) → c .target .result ≤ length (c .before .before .before .before .before .before .before .before .before .before .before .before .args .labels .now)
-within c = let a = c .before .before .before .before .before .before .before .before .before .before .before .before .args in rw (c .target .ensures) (target-within (a .k) (a .config .«max_points_per_centroid») (length (a .labels .now)) ((workspace-in (c .before .before .before .before .before .before .before .before .before .before .before .before .pre .0)) .enough))
+within c = let a = c .before .before .before .before .before .before .before .before .before .before .before .before .args in rw (c .target .ensures) (target-within (a .k) (a .config .«max_points_per_centroid») (length (a .labels .now)) ((workspace-in (c .before .before .before .before .before .before .before .before .before .before .before .before .pre .0)) .spaces .enough))
 
 -- the cells that they take
 abbrev cellsOf : tie.After-target → ℕ
 cellsOf c = c .target .result * c .before .before .before .before .before .before .before .before .before .before .before .before .args .dim
 
 cells-fit : (c : tie.After-target) → cellsOf c ≤ length (c .before .before .before .before .before .before .before .before .before .before .before .before .args .training .now)
-cells-fit c = rw ((workspace-in (c .before .before .before .before .before .before .before .before .before .before .before .before .pre .0)) .training-cells) (mul-le-mul-right (c .before .before .before .before .before .before .before .before .before .before .before .before .args .dim) (within c))
+cells-fit c = rw ((workspace-in (c .before .before .before .before .before .before .before .before .before .before .before .before .pre .0)) .spaces .training-cells) (mul-le-mul-right (c .before .before .before .before .before .before .before .before .before .before .before .before .args .dim) (within c))
 
 cells-few : (c : tie.After-target) → cellsOf c ≤ 262144
-cells-few c = let few : c .target .result ≤ 4096 = omega (arith, within c, (workspace-in (c .before .before .before .before .before .before .before .before .before .before .before .before .pre .0)) .few-rows) in mul-le-mul few ((workspace-in (c .before .before .before .before .before .before .before .before .before .before .before .before .pre .0)) .small-dim)
+cells-few c = let few : c .target .result ≤ 4096 = omega (arith, within c, (workspace-in (c .before .before .before .before .before .before .before .before .before .before .before .before .pre .0)) .spaces .few-rows) in mul-le-mul few ((workspace-in (c .before .before .before .before .before .before .before .before .before .before .before .before .pre .0)) .spaces .small-dim)
 
 -- as long as the parts lent are
 training-lent : (c : tie.After-target) → length (take (cellsOf c) (c .before .before .before .before .before .before .before .before .before .before .before .before .args .training .now)) ≡ cellsOf c
@@ -58,13 +58,13 @@ own-lent : (c : tie.After-target) → length (take (c .target .result) (c .befor
 own-lent c = length-take-le (c .target .result) (c .before .before .before .before .before .before .before .before .before .before .before .before .args .training-own .now) (own-fits c)
 
 places-fit : (c : tie.After-select-training-indices) → c .before .before .target .result ≤ length (c .select-training-indices .last .1 .1 .0)
-places-fit c = rw (c .select-training-indices .kept .1 .1 .0, (workspace-in (c .before .before .before .before .before .before .before .before .before .before .before .before .before .before .pre .0)) .place-cells) (within (c .before .before))
+places-fit c = rw (c .select-training-indices .kept .1 .1 .0, (workspace-in (c .before .before .before .before .before .before .before .before .before .before .before .before .before .before .pre .0)) .spaces .place-cells) (within (c .before .before))
 
 places-lent : (c : tie.After-select-training-indices) → length (take (c .before .before .target .result) (c .select-training-indices .last .1 .1 .0)) ≡ c .before .before .target .result
 places-lent c = length-take-le (c .before .before .target .result) (c .select-training-indices .last .1 .1 .0) (places-fit c)
 
 width-fits : (z : tie.Start) → z .args .k * z .args .dim ≤ 4096
-width-fits z = mul-le-mul ((workspace-in (z .pre .0)) .few) ((workspace-in (z .pre .0)) .small-dim)
+width-fits z = mul-le-mul ((workspace-in (z .pre .0)) .spaces .few) ((workspace-in (z .pre .0)) .spaces .small-dim)
 
 width-lent : (z : tie.Start) → length (take (z .args .k * z .args .dim) (replicate 4096 (ofBits binary32 0))) ≡ z .args .k * z .args .dim
 width-lent z = length-take-le (z .args .k * z .args .dim) (replicate 4096 (ofBits binary32 0)) (width-fits z)
@@ -79,7 +79,7 @@ own-holds c = front refl (c .compute-norms2 .kept .1 .1 .0 ∙ own-lent (c .befo
 select-training-indices-requires : tie.Need-select-training-indices-requires
 select-training-indices-requires c κs =
     let z = c .before .before .before .before .before .before .before .before .before .before .before .before .before in
-    (z .pre .1, (rw ((workspace-in (z .pre .0)) .place-cells) (within (c .before)), omega (arith, (workspace-in (z .pre .0)) .place-cells, (workspace-in (z .pre .0)) .few-rows)))
+    (z .pre .1, (rw ((workspace-in (z .pre .0)) .spaces .place-cells) (within (c .before)), omega (arith, (workspace-in (z .pre .0)) .spaces .place-cells, (workspace-in (z .pre .0)) .spaces .few-rows)))
 
 mul-cells : tie.Need-mul-cells
 mul-cells c = omega (arith, cells-few (c .before .before .before .before))
@@ -101,17 +101,17 @@ gather-rows-requires c κs =
     let z = c .before .before .before .before .before .before .before .before .before .before .before .before .before .before .before .before .before .before in
     let t = c .before .before .before .before .before .before in
     let p = c .before .before .before .before in (
-      (workspace-in (z .pre .0)) .value-cells,
+      (workspace-in (z .pre .0)) .spaces .value-cells,
       (
         training-lent t ∙ ap (λ (n : ℕ). n * z .args .dim) (sym (places-lent p)),
-        (rw ((workspace-in (z .pre .0)) .place-cells) at (p .select-training-indices .ensures .0), omega (arith, places-lent p, within t, (workspace-in (z .pre .0)) .few-rows)),
+        (rw ((workspace-in (z .pre .0)) .spaces .place-cells) at (p .select-training-indices .ensures .0), omega (arith, places-lent p, within t, (workspace-in (z .pre .0)) .spaces .few-rows)),
       ),
     )
 
 compute-norms-requires : tie.Need-compute-norms-requires
 compute-norms-requires c κs =
     let z = c .before .before .before .before .before .before .before .before .before .before .before .before .before .before .before .before .before .before .before .before .before .before in
-    (workspace-in (z .pre .0)) .value-cells ∙ ap (λ (n : ℕ). n * z .args .dim) (sym ((workspace-in (z .pre .0)) .own-cells))
+    (workspace-in (z .pre .0)) .spaces .value-cells ∙ ap (λ (n : ℕ). n * z .args .dim) (sym ((workspace-in (z .pre .0)) .spaces .own-cells))
 
 slice-reshare-prefix-compute-norms : tie.Need-slice-reshare-prefix-compute-norms
 slice-reshare-prefix-compute-norms c = training-holds (c .before .before .before .before .before .before) .fits
@@ -165,12 +165,12 @@ run-restarts-requires c κs =
     let norms = c .before .before .before .before .before .before .before .before .before .before .before .compute-norms2 in
     let front-own = own-holds (c .before .before .before .before .before .before .before .before .before .before .before) in
     let front-training = training-holds (c .before .before .before .before .before .before .before .before .before .before .before .before .before .before .before .before .before .before .before .before) in (
-      spaces-out (spaces-of w (t .target .result) _ _ _ _ (enough t) (within t) (front-own .long) (own .kept .1 .1 .0) (front-training .long) (places-lent (c .before .before .before .before .before .before .before .before .before .before .before .before .before .before .before .before .before .before .before .before .before .before .before .before .before))),
+      spaces-out (spaces-of (w .spaces) (t .target .result) _ _ _ _ (enough t) (within t) (front-own .long) (own .kept .1 .1 .0) (front-training .long) (places-lent (c .before .before .before .before .before .before .before .before .before .before .before .before .before .before .before .before .before .before .before .before .before .before .before .before .before))),
       (
         (w .some-block, width-lent z),
         (
           (
-            own .ensures ∙ ap (λ (n : ℕ). normsOf (rowsFrom (a .dim) n (a .values .now))) (w .own-cells),
+            own .ensures ∙ ap (λ (n : ℕ). normsOf (rowsFrom (a .dim) n (a .values .now))) (w .spaces .own-cells),
             front-own .is ∙ (norms .ensures ∙ ap (λ (n : ℕ). normsOf (rowsFrom (a .dim) n (take (cellsOf t) (c .before .before .before .before .before .before .before .before .before .before .before .before .before .before .before .before .before .before .before .before .gather-rows .last .1 .1 .1 .1 .0 ++ drop (cellsOf t) (a .training .now))))) (own-lent t ∙ sym (front-own .long))),
           ),
           c .before .before .before .before .before .before .before .before .before .before .before .before .before .before .before .before .before .before .before .before .before .before .before .before .before .select-training-indices .ensures .1 .inside,
@@ -179,10 +179,10 @@ run-restarts-requires c κs =
     )
 
 same-length : tie.Need-same-length
-same-length c = search needs
+same-length c = c .before .before .before .before .before .before .before .before .before .before .before .run-restarts .kept .1 .1 .1 .1 .1 .1 .1 .1 .1 .0
 
 same-length-2 : tie.Need-same-length-2
-same-length-2 c = search needs
+same-length-2 c = c .before .before .before .before .before .before .before .before .before .before .before .run-restarts .kept .1 .1 .1 .1 .1 .1 .1 .1 .1 .1 .0
 
 same-length-3 : tie.Need-same-length-3
 same-length-3 c =
@@ -200,10 +200,10 @@ same-length-5 c =
     front-back (t .target .result) (c .before .before .before .before .before .before .before .before .before .before .before .before .before .before .before .before .before .before .before .before .before .before .before .before .before .before .before .before .before .before .before .before .before .before .before .before .before .before .before .before .before .before .before .before .before .before .before .before .before .before .before .args .training-own .now) (n .last .1 .1 .0) (own-fits t) (n .kept .1 .1 .0)
 
 same-length-6 : tie.Need-same-length-6
-same-length-6 c = search needs
+same-length-6 c = c .before .before .before .before .before .before .before .before .before .before .before .run-restarts .kept .1 .1 .1 .1 .1 .1 .1 .1 .1 .1 .1 .0
 
 same-length-7 : tie.Need-same-length-7
-same-length-7 c = search needs
+same-length-7 c = c .before .before .before .before .before .before .before .before .before .before .before .run-restarts .kept .1 .1 .1 .1 .1 .1 .1 .1 .1 .1 .1 .1 .0
 
 same-length-8 : tie.Need-same-length-8
 same-length-8 c =
@@ -223,7 +223,7 @@ returns c =
     let gathered = ap (λ (n : ℕ). rowsFrom (a .dim) n (take (cellsOf t) (g .last .1 .1 .1 .1 .0 ++ drop (cellsOf t) (a .training .now)))) (front-own .long ∙ sym (places-lent p))
     ∙ (ap (λ (l : List Float). rowsFrom (a .dim) (length (take (t .target .result) (p .select-training-indices .last .1 .1 .0))) l) (front-training .is) ∙ g .ensures) in
     ran _ (a .config) (a .k) (a .dim) (t .target .result) (length (a .labels .now)) _ _ (a .cursor) _ _ (p .select-training-indices .last .1 .1 .0) _ _ (rows-length (a .dim) (length (a .labels .now)) (a .values .now)) (t .target .ensures)
-    (rw ((workspace-in (z .pre .0)) .place-cells) at (p .select-training-indices .ensures)) gathered (c .before .before .before .before .before .before .before .before .before .before .before .run-restarts .ensures)
+    (rw ((workspace-in (z .pre .0)) .spaces .place-cells) at (p .select-training-indices .ensures)) gathered (c .before .before .before .before .before .before .before .before .before .before .before .run-restarts .ensures)
 
 pub run-kmeans-flat-spec : {M : Type 1} → statement M
 run-kmeans-flat-spec =

@@ -12,7 +12,7 @@ use Rattle.kmeans.proofs.restart.run_restart.Statement.{statement}
 use Rattle.kmeans.proofs.restart.run_restart.Tie as tie
 use Rattle.kmeans.proofs.restart.run_restart.Reads as reads
 use Rattle.kmeans.proofs.restart.run_restart.Lts as lts
-use Rattle.steps.proofs.lloyd.run_lloyd_iterations.Reads as run-lloyd-iterations-reads
+use Rattle.steps.proofs.alike.run_lloyd_iterations.Reads as run-lloyd-iterations-reads
 use Rattle.steps.proofs.training.gather_rows.Reads as gather-rows-reads
 use Rattle.sums.proofs.draws.pick.Reads as pick-reads
 
@@ -46,16 +46,16 @@ run-lloyd-iterations-requires : tie.Need-run-lloyd-iterations-requires
 run-lloyd-iterations-requires c κs = let z = c .before .before .before .before .before .before .before .before .before .before .before .before .before .before .before .before .before .before .before in rw (c .before .before .before .before .before .gather-rows .kept .1 .1 .1 .1 .0) (z .pre .0, (z .pre .1 .0, c .before .before .before .before .before .before .before .before .before .before .pick .ensures .1 .inside))
 
 same-length : tie.Need-same-length
-same-length c = search needs
+same-length c = c .before .before .before .before .before .before .before .before .before .before .before .before .before .before .before .before .before .pick .kept .1 .1 .0
 
 same-length-2 : tie.Need-same-length-2
-same-length-2 c = search needs
+same-length-2 c = c .before .before .before .before .before .before .run-lloyd-iterations .kept .1 .1 .1 .1 .1 .1 .1 .1 .0 ∙ c .before .before .before .before .before .before .before .before .before .before .before .before .gather-rows .kept .1 .1 .1 .1 .0
 
 same-length-3 : tie.Need-same-length-3
-same-length-3 c = search needs
+same-length-3 c = c .before .before .before .before .before .before .run-lloyd-iterations .kept .1 .1 .1 .1 .1 .1 .1 .1 .1 .0
 
 same-length-4 : tie.Need-same-length-4
-same-length-4 c = search needs
+same-length-4 c = c .before .before .before .before .before .before .run-lloyd-iterations .kept .1 .1 .1 .1 .1 .1 .1 .1 .1 .1 .0
 
 returns : tie.Need-returns
 returns c =

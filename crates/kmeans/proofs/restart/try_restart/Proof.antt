@@ -1,13 +1,9 @@
 use mathlib.Core.List.{_++_}
-use Rattle.sums.proofs.Fronts.{front-back}
-use Prim.Native.Nat.{ℕ, _*_, _≤_}
-use mathlib.Core.Path.{_≡_, refl, sym, ap, _∙_}
-use lib.ListN.{length, take, drop}
-use lib.Seq.{length-take-le}
+use mathlib.Core.Path.{_≡_, refl, sym, _∙_}
+use lib.ListN.{length, drop}
 use Rattle.steps.proofs.Rooms.{room-out}
-use Rattle.kmeans.proofs.Rooms.{spaces-in}
+use Rattle.kmeans.proofs.Rooms.{spaces-in, part-fits, part-lent, part-back}
 use Rattle.kmeans.proofs.Restarts.{trained, tried-better, tried-kept}
-use native.Mathlib.Omega.{arith}
 use borrow.Author.Needs.{needs}
 use Rattle.kmeans.proofs.restart.try_restart.Statement.{statement}
 use Rattle.kmeans.proofs.restart.try_restart.Tie as tie
@@ -18,47 +14,36 @@ use Rattle.kmeans.proofs.restart.finish_restart.Reads as finish-restart
 use Rattle.kmeans.proofs.restart.run_restart.Reads as run-restart-reads
 use Rattle.sums.proofs.cells.copy.Reads as copy-reads
 
--- the parts lent are as long as there are training rows
-labels-fit : (z : tie.Start) → length (z .args .training-own .now) ≤ length (z .args .trial-labels .now)
-labels-fit z = let s = spaces-in (z .pre .0) in omega (arith, s .within, s .trial-cells)
-
-distances-fit : (z : tie.Start) → length (z .args .training-own .now) ≤ length (z .args .distances .now)
-distances-fit z = let s = spaces-in (z .pre .0) in omega (arith, s .within, s .distance-cells)
-
-labels-lent : (z : tie.Start) → length (take (length (z .args .training-own .now)) (z .args .trial-labels .now)) ≡ length (z .args .training-own .now)
-labels-lent z = length-take-le _ (z .args .trial-labels .now) (labels-fit z)
-
-distances-lent : (z : tie.Start) → length (take (length (z .args .training-own .now)) (z .args .distances .now)) ≡ length (z .args .training-own .now)
-distances-lent z = length-take-le _ (z .args .distances .now) (distances-fit z)
-
 slice-relend-prefix-run-restart : tie.Need-slice-relend-prefix-run-restart
-slice-relend-prefix-run-restart c = labels-fit (c .before .before .before .before .before .before .before .before .before .before .before .before .before .before)
+slice-relend-prefix-run-restart c = let z = c .before .before .before .before .before .before .before .before .before .before .before .before .before .before in let s = spaces-in (z .pre .0) in part-fits s (z .args .trial-labels .now) (s .trial-cells)
 
 slice-aggregate-run-restart : tie.Need-slice-aggregate-run-restart
-slice-aggregate-run-restart c = sym (labels-lent (c .before .before .before .before .before .before .before .before .before .before .before .before .before .before .before))
+slice-aggregate-run-restart c = let z = c .before .before .before .before .before .before .before .before .before .before .before .before .before .before .before in let s = spaces-in (z .pre .0) in sym (part-lent s (z .args .trial-labels .now) (s .trial-cells))
 
 slice-relend-prefix-run-restart-2 : tie.Need-slice-relend-prefix-run-restart-2
-slice-relend-prefix-run-restart-2 c = distances-fit (c .before .before .before .before .before .before .before .before .before .before .before .before .before .before .before)
+slice-relend-prefix-run-restart-2 c = let z = c .before .before .before .before .before .before .before .before .before .before .before .before .before .before .before in let s = spaces-in (z .pre .0) in part-fits s (z .args .distances .now) (s .distance-cells)
 
 slice-aggregate-run-restart-2 : tie.Need-slice-aggregate-run-restart-2
-slice-aggregate-run-restart-2 c = sym (distances-lent (c .before .before .before .before .before .before .before .before .before .before .before .before .before .before .before .before))
+slice-aggregate-run-restart-2 c = let z = c .before .before .before .before .before .before .before .before .before .before .before .before .before .before .before .before in let s = spaces-in (z .pre .0) in sym (part-lent s (z .args .distances .now) (s .distance-cells))
 
 run-restart-requires : tie.Need-run-restart-requires
 run-restart-requires c κs =
     let z = c .before .before .before .before .before .before .before .before .before .before .before .before .before .before .before .before in
     let s = spaces-in (z .pre .0) in
-    rw (labels-lent z, distances-lent z) (room-out (trained s _ _ (z .pre .1 .0 .0) (z .pre .1 .0 .1)), (z .pre .1 .1 .0 .1, (z .pre .1 .1 .1, (s .place-cells, s .enough))))
+    rw (part-lent s (z .args .trial-labels .now) (s .trial-cells), part-lent s (z .args .distances .now) (s .distance-cells)) (room-out (trained s _ _ (z .pre .1 .0 .0) (z .pre .1 .0 .1)), (z .pre .1 .1 .0 .1, (z .pre .1 .1 .1, (s .place-cells, s .enough))))
 
 -- the slices with the parts lent back in front
 labels-back : (c : tie.After-run-restart) → let a = c .before .before .before .before .before .before .before .before .before .before .before .before .before .before .before .before .before .args in length (c .run-restart .last .1 .1 .1 .1 .1 .1 .1 .1 .1 .1 .0 ++ drop (length (a .training-own .now)) (a .trial-labels .now)) ≡ length (a .labels .now)
 labels-back c =
     let z = c .before .before .before .before .before .before .before .before .before .before .before .before .before .before .before .before .before in
-    front-back (length (z .args .training-own .now)) (z .args .trial-labels .now) (c .run-restart .last .1 .1 .1 .1 .1 .1 .1 .1 .1 .1 .0) (labels-fit z) (c .run-restart .kept .1 .1 .1 .1 .1 .1 .1 .1 .1 .1 .0) ∙ (spaces-in (z .pre .0)) .trial-cells
+    let s = spaces-in (z .pre .0) in
+    part-back s (z .args .trial-labels .now) (s .trial-cells) (c .run-restart .last .1 .1 .1 .1 .1 .1 .1 .1 .1 .1 .0) (c .run-restart .kept .1 .1 .1 .1 .1 .1 .1 .1 .1 .1 .0)
 
 distances-back : (c : tie.After-run-restart) → let a = c .before .before .before .before .before .before .before .before .before .before .before .before .before .before .before .before .before .args in length (c .run-restart .last .1 .1 .1 .1 .1 .1 .1 .1 .1 .1 .1 .0 ++ drop (length (a .training-own .now)) (a .distances .now)) ≡ length (a .labels .now)
 distances-back c =
     let z = c .before .before .before .before .before .before .before .before .before .before .before .before .before .before .before .before .before in
-    front-back (length (z .args .training-own .now)) (z .args .distances .now) (c .run-restart .last .1 .1 .1 .1 .1 .1 .1 .1 .1 .1 .1 .0) (distances-fit z) (c .run-restart .kept .1 .1 .1 .1 .1 .1 .1 .1 .1 .1 .1 .0) ∙ (spaces-in (z .pre .0)) .distance-cells
+    let s = spaces-in (z .pre .0) in
+    part-back s (z .args .distances .now) (s .distance-cells) (c .run-restart .last .1 .1 .1 .1 .1 .1 .1 .1 .1 .1 .1 .0) (c .run-restart .kept .1 .1 .1 .1 .1 .1 .1 .1 .1 .1 .1 .0)
 
 finish-restart-requires : tie.Need-finish-restart-requires
 finish-restart-requires c κs =
@@ -81,10 +66,10 @@ copy-requires c κs =
     (spaces-in (z .pre .0)) .centroid-cells ∙ sym (c .before .before .before .before .before .before .before .before .before .before .before .before .before .before .before .before .before .before .before .before .before .before .before .before .before .run-restart .kept .1 .1 .1 .1 .1 .1 .1 .1 .1 .0 ∙ z .pre .1 .0 .1)
 
 same-length : tie.Need-same-length
-same-length c = search needs
+same-length c = c .before .before .before .before .before .before .before .copy-cells .kept .0
 
 same-length-2 : tie.Need-same-length-2
-same-length-2 c = search needs
+same-length-2 c = c .before .before .copy .kept .0
 
 same-length-3 : tie.Need-same-length-3
 same-length-3 c = search needs
@@ -93,16 +78,17 @@ same-length-4 : tie.Need-same-length-4
 same-length-4 c = search needs
 
 same-length-5 : tie.Need-same-length-5
-same-length-5 c = search needs
+same-length-5 c = c .before .before .before .before .before .before .before .before .before .before .before .before .before .before .before .before .before .before .before .before .before .before .before .before .before .before .before .before .run-restart .kept .1 .1 .1 .1 .1 .1 .1 .1 .0
 
 same-length-6 : tie.Need-same-length-6
-same-length-6 c = search needs
+same-length-6 c = c .before .before .before .before .before .before .before .before .before .before .before .before .before .before .before .before .before .before .before .before .before .before .before .before .before .before .before .before .run-restart .kept .1 .1 .1 .1 .1 .1 .1 .1 .1 .0
 
 returns : tie.Need-returns
 returns c =
     let z = c .before .before .before .before .before .before .before .before .before .before .before .before .before .before .before .before .before .before .before .before .before .before .before .before .before .before .before .before .before .before .before .before .before .before .before .before .before .before .before .before .before .before .before .before .before in
+    let s = spaces-in (z .pre .0) in
     rw (c .before .before .before .before .before .before .before .copy-cells .ensures, c .before .before .copy .ensures)
-    (tried-better _ _ _ _ _ _ _ _ (z .args .best) _ _ _ _ _ _ (rw (labels-lent z) at (c .before .before .before .before .before .before .before .before .before .before .before .before .before .before .before .before .before .before .before .before .before .before .before .before .before .before .before .before .run-restart .ensures)) (rw (labels-back (c .before .before .before .before .before .before .before .before .before .before .before .before .before .before .before .before .before .before .before .before .before .before .before .before .before .before .before .before)) at (c .before .before .before .before .before .before .before .before .before .before .before .before .before .before .before .before .finish-restart .ensures)) (c .before .before .before .before .before .before .before .before .before .before .if1 .taken))
+    (tried-better _ _ _ _ _ _ _ _ (z .args .best) _ _ _ _ _ _ (rw (part-lent s (z .args .trial-labels .now) (s .trial-cells)) at (c .before .before .before .before .before .before .before .before .before .before .before .before .before .before .before .before .before .before .before .before .before .before .before .before .before .before .before .before .run-restart .ensures)) (rw (labels-back (c .before .before .before .before .before .before .before .before .before .before .before .before .before .before .before .before .before .before .before .before .before .before .before .before .before .before .before .before)) at (c .before .before .before .before .before .before .before .before .before .before .before .before .before .before .before .before .finish-restart .ensures)) (c .before .before .before .before .before .before .before .before .before .before .if1 .taken))
 
 same-length-7 : tie.Need-same-length-7
 same-length-7 c = search needs
@@ -111,15 +97,16 @@ same-length-8 : tie.Need-same-length-8
 same-length-8 c = search needs
 
 same-length-9 : tie.Need-same-length-9
-same-length-9 c = search needs
+same-length-9 c = c .before .before .before .before .before .before .before .before .before .before .before .before .before .before .before .before .before .before .run-restart .kept .1 .1 .1 .1 .1 .1 .1 .1 .0
 
 same-length-10 : tie.Need-same-length-10
-same-length-10 c = search needs
+same-length-10 c = c .before .before .before .before .before .before .before .before .before .before .before .before .before .before .before .before .before .before .run-restart .kept .1 .1 .1 .1 .1 .1 .1 .1 .1 .0
 
 returns-2 : tie.Need-returns-2
 returns-2 c =
     let z = c .before .before .before .before .before .before .before .before .before .before .before .before .before .before .before .before .before .before .before .before .before .before .before .before .before .before .before .before .before .before .before .before .before .before .before in
-    tried-kept _ _ _ _ _ _ _ _ (z .args .best) _ _ _ _ _ _ (rw (labels-lent z) at (c .before .before .before .before .before .before .before .before .before .before .before .before .before .before .before .before .before .before .run-restart .ensures)) (rw (labels-back (c .before .before .before .before .before .before .before .before .before .before .before .before .before .before .before .before .before .before)) at (c .before .before .before .before .before .before .finish-restart .ensures)) (c .if1 .left)
+    let s = spaces-in (z .pre .0) in
+    tried-kept _ _ _ _ _ _ _ _ (z .args .best) _ _ _ _ _ _ (rw (part-lent s (z .args .trial-labels .now) (s .trial-cells)) at (c .before .before .before .before .before .before .before .before .before .before .before .before .before .before .before .before .before .before .run-restart .ensures)) (rw (labels-back (c .before .before .before .before .before .before .before .before .before .before .before .before .before .before .before .before .before .before)) at (c .before .before .before .before .before .before .finish-restart .ensures)) (c .if1 .left)
 
 pub try-restart-spec : {M : Type 1} → statement M
 try-restart-spec =

@@ -3,7 +3,7 @@ use mathlib.Core.List.{List}
 use Prim.Native.Nat.{ℕ}
 use Rattle.sums.specs.Refusals.{sameAll}
 use Rattle.batch.specs.Batch.{listingOf}
-use Rattle.replay.proofs.Sames.{same-short}
+use Rattle.sums.proofs.Sames.{same-short}
 use Rattle.replay.proofs.Agreeing.{front-whole}
 use borrow.Author.Needs.{needs}
 use Rattle.replay.proofs.cases.grouping_agrees.Statement.{statement}

@@ -2,7 +2,7 @@ use Prim.Native.Nat.{_≤_, _-_}
 use mathlib.Core.Path.{_≡_, sym}
 use lib.ListN.{length, drop}
 use Rattle.sums.specs.Refusals.{sameAll}
-use Rattle.replay.proofs.Sames.{same-short, same-on, same-not, same-end}
+use Rattle.sums.proofs.Sames.{same-short, same-on, same-not, same-end}
 use borrow.Author.Needs.{needs}
 use native.Mathlib.Omega.{arith}
 use Rattle.replay.proofs.same.bytes.Statement.{statement}

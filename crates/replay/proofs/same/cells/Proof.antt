@@ -1,9 +1,9 @@
-use Prim.Native.Nat.{_≤_, _<_, _-_}
-use mathlib.Core.Path.{_≡_, sym}
-use lib.ListN.{length, drop, getD}
+use Prim.Native.Nat.{_≤_, _-_}
+use mathlib.Core.Path.{_≡_, refl}
+use lib.ListN.{length, drop}
 use Rattle.sums.specs.Refusals.{sameAll}
 use Rattle.words.specs.Bytes.{wordsFrom}
-use Rattle.replay.proofs.Sames.{same-on, same-not, same-end, words-length, word-at}
+use Rattle.replay.proofs.Sames.{words-on, words-not, words-end}
 use borrow.Author.Needs.{needs}
 use native.Mathlib.Omega.{arith}
 use Rattle.replay.proofs.same.cells.Statement.{statement}
@@ -37,13 +37,7 @@ returns : tie.Need-returns Inv-loop μ-loop
 returns c =
     let t = c .before .before .before .before .before in
     let a = t .before .before .before .args in
-    let n = length (a .cells .now) in
-    let l = sym (words-length n (a .stored .now)) in
-    let h : t .loop .i < n = omega arith in
-    let e = word-at n (a .stored .now) (t .loop .i) h in
-    let s : (c .before .before .wide .result ≡ c .before .u32-at .result) ≡ (getD (a .cells .now) (t .loop .i) 0 ≡ getD (wordsFrom n (a .stored .now)) (t .loop .i) 0)
-    = rw (c .before .before .wide .ensures, c .before .u32-at .ensures, e) in
-    same-not (a .cells .now) (wordsFrom n (a .stored .now)) (t .loop .i) _ h l (rw s at (c .if1 .taken)) (t .loop .inv .1)
+    words-not (a .cells .now) (a .stored .now) _ (t .loop .i) _ refl (t .loop .inv .1) (omega arith) (c .before .before .wide .ensures) (c .before .u32-at .ensures) (c .if1 .taken)
 
 add-i : tie.Need-add-i Inv-loop μ-loop
 add-i c = search needs
@@ -55,21 +49,13 @@ loop-again : tie.Need-loop-again Inv-loop μ-loop
 loop-again c =
     let t = c .before .before .before .before .before in
     let a = t .before .before .before .args in
-    let n = length (a .cells .now) in
-    let l = sym (words-length n (a .stored .now)) in
-    let h : t .loop .i < n = omega arith in
-    let e = word-at n (a .stored .now) (t .loop .i) h in
-    let s : (c .before .before .wide .result ≡ c .before .u32-at .result) ≡ (getD (a .cells .now) (t .loop .i) 0 ≡ getD (wordsFrom n (a .stored .now)) (t .loop .i) 0)
-    = rw (c .before .before .wide .ensures, c .before .u32-at .ensures, e) in
-    (omega arith, same-on (a .cells .now) (wordsFrom n (a .stored .now)) (t .loop .i) _ h l (rw s at (c .if1 .left)) (t .loop .inv .1))
+    (omega arith, words-on (a .cells .now) (a .stored .now) _ (t .loop .i) _ refl (t .loop .inv .1) (omega arith) (c .before .before .wide .ensures) (c .before .u32-at .ensures) (c .if1 .left))
 
 returns-2 : tie.Need-returns-2 Inv-loop μ-loop
 returns-2 c =
     let t = c .before in
     let a = t .before .before .before .args in
-    let n = length (a .cells .now) in
-    let l = sym (words-length n (a .stored .now)) in
-    same-end (a .cells .now) (wordsFrom n (a .stored .now)) (t .loop .i) _ (omega arith) l (t .loop .inv .1)
+    words-end (a .cells .now) (a .stored .now) _ (t .loop .i) _ refl (t .loop .inv .1) (omega arith)
 
 pub cells-spec : {M : Type 1} → statement M
 cells-spec =

@@ -1,17 +1,16 @@
-use lib.Ieee.{binary64}
-use mathlib.Core.Path.{sym}
-use Rattle.replay.proofs.Sames.{is-nan, known, nan-bits}
+use mathlib.Core.Path.{ap}
+use lib.Ieee.{binary64, toBits}
+use Rattle.sums.proofs.NanBits.{nan-known, no-nan-known}
 use borrow.Author.Needs.{needs}
 use Rattle.replay.proofs.same.double_bits_of.Statement.{statement}
 use Rattle.replay.proofs.same.double_bits_of.Tie as tie
 
 returns : tie.Need-returns
-returns c =
-    sym (nan-bits binary64 (c .before .args .x) (is-nan (c .before .args .x) (c .if1 .taken)))
+unfolding toBits
+returns c = ap (toBits binary64) (nan-known (c .before .args .x) (c .if1 .taken))
 
 float-to-bits-result : tie.Need-float-to-bits-result
-float-to-bits-result c =
-    known (c .before .args .x) (c .if1 .left)
+float-to-bits-result c = no-nan-known (c .before .args .x) (c .if1 .left)
 
 returns-2 : tie.Need-returns-2
 returns-2 c = search needs

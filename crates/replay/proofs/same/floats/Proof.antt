@@ -1,6 +1,7 @@
-use lib.Ieee.{binary32, toBits}
-use Rattle.replay.proofs.Sames.{bit-at, same-on, same-not, same-end, words-length, word-at}
-use lib.ListN.{length-map, length, drop, getD}
+use lib.Ieee.{nan, binary32, toBits}
+use Rattle.sums.proofs.Tables.{map-at}
+use Rattle.replay.proofs.Sames.{words-on, words-not, words-end}
+use lib.ListN.{length-map, length, drop}
 use Prim.Native.Nat.{_≤_, _<_, _-_}
 use mathlib.Core.Path.{_≡_, sym, _∙_}
 use mathlib.Core.List.{map}
@@ -39,16 +40,8 @@ returns : tie.Need-returns Inv-loop μ-loop
 returns c =
     let t = c .before .before .before .before .before in
     let a = t .before .before .before .args in
-    let n = length (a .floats .now) in
-    let xs = map (toBits binary32) (a .floats .now) in
-    let ws = wordsFrom n (a .stored .now) in
-    let m : length xs ≡ n = length-map (a .floats .now) (toBits binary32) in
-    let l : length xs ≡ length ws = m ∙ sym (words-length n (a .stored .now)) in
-    let i = t .loop .i in
-    let h : i < n = omega arith in
-    let s : (c .before .before .bits-of .result ≡ c .before .u32-at .result) ≡ (getD xs i 0 ≡ getD ws i 0)
-    = rw (c .before .before .bits-of .ensures, c .before .u32-at .ensures, word-at n (a .stored .now) i h, bit-at (a .floats .now) i h) in
-    same-not xs ws i _ (omega (arith, m)) l (rw s at (c .if1 .taken)) (t .loop .inv .1)
+    let h : t .loop .i < length (a .floats .now) = omega arith in
+    words-not (map (toBits binary32) (a .floats .now)) (a .stored .now) _ (t .loop .i) _ (length-map (a .floats .now) (toBits binary32)) (t .loop .inv .1) h (c .before .before .bits-of .ensures ∙ sym (map-at (toBits binary32) (a .floats .now) (t .loop .i) nan 0 h)) (c .before .u32-at .ensures) (c .if1 .taken)
 
 add-i : tie.Need-add-i Inv-loop μ-loop
 add-i c = search needs
@@ -60,27 +53,14 @@ loop-again : tie.Need-loop-again Inv-loop μ-loop
 loop-again c =
     let t = c .before .before .before .before .before in
     let a = t .before .before .before .args in
-    let n = length (a .floats .now) in
-    let xs = map (toBits binary32) (a .floats .now) in
-    let ws = wordsFrom n (a .stored .now) in
-    let m : length xs ≡ n = length-map (a .floats .now) (toBits binary32) in
-    let l : length xs ≡ length ws = m ∙ sym (words-length n (a .stored .now)) in
-    let i = t .loop .i in
-    let h : i < n = omega arith in
-    let s : (c .before .before .bits-of .result ≡ c .before .u32-at .result) ≡ (getD xs i 0 ≡ getD ws i 0)
-    = rw (c .before .before .bits-of .ensures, c .before .u32-at .ensures, word-at n (a .stored .now) i h, bit-at (a .floats .now) i h) in
-    (omega arith, same-on xs ws i _ (omega (arith, m)) l (rw s at (c .if1 .left)) (t .loop .inv .1))
+    let h : t .loop .i < length (a .floats .now) = omega arith in
+    (omega arith, words-on (map (toBits binary32) (a .floats .now)) (a .stored .now) _ (t .loop .i) _ (length-map (a .floats .now) (toBits binary32)) (t .loop .inv .1) h (c .before .before .bits-of .ensures ∙ sym (map-at (toBits binary32) (a .floats .now) (t .loop .i) nan 0 h)) (c .before .u32-at .ensures) (c .if1 .left))
 
 returns-2 : tie.Need-returns-2 Inv-loop μ-loop
 returns-2 c =
     let t = c .before in
     let a = t .before .before .before .args in
-    let n = length (a .floats .now) in
-    let xs = map (toBits binary32) (a .floats .now) in
-    let ws = wordsFrom n (a .stored .now) in
-    let m : length xs ≡ n = length-map (a .floats .now) (toBits binary32) in
-    let l : length xs ≡ length ws = m ∙ sym (words-length n (a .stored .now)) in
-    same-end xs ws (t .loop .i) _ (omega (arith, m)) l (t .loop .inv .1)
+    words-end (map (toBits binary32) (a .floats .now)) (a .stored .now) _ (t .loop .i) _ (length-map (a .floats .now) (toBits binary32)) (t .loop .inv .1) (omega arith)
 
 pub floats-spec : {M : Type 1} → statement M
 floats-spec =

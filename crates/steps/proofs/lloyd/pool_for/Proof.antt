@@ -7,7 +7,7 @@ use Rattle.steps.proofs.lloyd.pool_for.Statement.{statement}
 use Rattle.steps.proofs.lloyd.pool_for.Tie as tie
 use Rattle.steps.proofs.lloyd.pool_for.Reads as reads
 use Rattle.steps.proofs.lloyd.pool_for.Lts as lts
-use Rattle.labels.proofs.pool.gather_pool.Reads as gather-pool-reads
+use Rattle.pool.proofs.gather_pool.Reads as gather-pool-reads
 
 -- src/lloyd.rt:74:9
 returns : tie.Need-returns

@@ -1,5 +1,5 @@
 use Prim.Native.Nat.{ℕ, _*_, _≤_}
-use mathlib.Core.Path.{_≡_, sym, ap, _∙_}
+use mathlib.Core.Path.{refl, _≡_, sym, ap, _∙_}
 use lib.ListN.{length}
 use lib.Seq.{length-take-le}
 use Rattle.sums.specs.Rows.{rowsFrom}
@@ -13,16 +13,6 @@ use native.Mathlib.Omega.{arith}
 use borrow.Author.Needs.{needs}
 use Rattle.steps.proofs.lloyd.run_iteration.Statement.{statement}
 use Rattle.steps.proofs.lloyd.run_iteration.Tie as tie
-use Rattle.steps.proofs.lloyd.run_iteration.Reads as reads
-use Rattle.steps.proofs.lloyd.run_iteration.Lts as lts
-use Rattle.steps.proofs.lloyd.accumulate.Reads as accumulate-reads
-use Rattle.steps.proofs.lloyd.all_filled.Reads as all-filled-reads
-use Rattle.steps.proofs.lloyd.is_settled.Reads as is-settled-reads
-use Rattle.steps.proofs.lloyd.pool_for.Reads as pool-for-reads
-use Rattle.steps.proofs.update.update_centroids.Reads as update-centroids-reads
-use Rattle.labels.proofs.nearest.assign_rows.Reads as assign-rows-reads
-use Rattle.steps.proofs.lloyd.refills_repeat.Reads as refills-repeat-reads
-use Rattle.sums.proofs.cells.copy_cells.Reads as copy-cells-reads
 
 assign-rows-requires : tie.Need-assign-rows-requires
 assign-rows-requires c κs =
@@ -83,25 +73,25 @@ is-settled-requires : tie.Need-is-settled-requires
 is-settled-requires c κs = search needs
 
 same-length : tie.Need-same-length
-same-length c = search needs
+same-length c = refl
 
 same-length-2 : tie.Need-same-length-2
-same-length-2 c = search needs
+same-length-2 c = c .before .before .before .before .before .before .before .before .before .before .before .before .before .before .before .before .before .before .before .before .before .before .before .before .before .before .before .before .before .before .assign-rows .kept .1 .1 .1 .1 .1 .0
 
 same-length-3 : tie.Need-same-length-3
-same-length-3 c = search needs
+same-length-3 c = c .before .before .before .before .before .before .before .before .before .before .before .before .before .before .before .before .before .before .before .before .before .before .before .before .before .before .before .before .before .before .assign-rows .kept .1 .1 .1 .1 .1 .1 .0
 
 same-length-4 : tie.Need-same-length-4
-same-length-4 c = search needs
+same-length-4 c = c .before .before .before .before .before .before .before .before .before .before .before .before .before .before .before .before .before .before .before .before .before .before .accumulate .kept .1 .1 .1 .0
 
 same-length-5 : tie.Need-same-length-5
-same-length-5 c = search needs
+same-length-5 c = c .before .before .before .before .before .before .before .before .before .before .before .before .before .before .before .before .before .before .before .before .before .before .accumulate .kept .1 .1 .1 .1 .0
 
 same-length-6 : tie.Need-same-length-6
-same-length-6 c = search needs
+same-length-6 c = c .before .before .before .before .before .before .before .before .pool-for .kept .1 .1 .1 .0
 
 same-length-7 : tie.Need-same-length-7
-same-length-7 c = search needs
+same-length-7 c = c .before .before .before .before .before .before .before .before .before .before .before .before .before .copy-cells .kept .0
 
 -- the counts and the sums, with the rows counted as at entry
 summed : (c : tie.After-accumulate) → let a = c .before .before .before .before .before .before .before .before .before .before .before .before .before .before .before .before .before .before .before .before .before .before .args in
@@ -144,7 +134,7 @@ update-centroids-requires c κs =
     )
 
 same-length-8 : tie.Need-same-length-8
-same-length-8 c = search needs
+same-length-8 c = c .before .before .update-centroids .kept .0
 
 same-length-9 : tie.Need-same-length-9
 same-length-9 c = c .before .before .before .before .before .before .before .before .before .before .before .before .before .before .before .before .before .before .before .before .before .before .before .before .before .before .before .before .before .before .before .before .before .before .before .before .before .assign-rows .kept .1 .1 .1 .1 .1 .0
@@ -153,16 +143,16 @@ same-length-10 : tie.Need-same-length-10
 same-length-10 c = c .before .before .before .before .before .before .before .before .before .before .before .before .before .before .before .before .before .before .before .before .before .before .before .before .before .before .before .before .before .before .before .before .before .before .before .before .before .assign-rows .kept .1 .1 .1 .1 .1 .1 .0
 
 same-length-11 : tie.Need-same-length-11
-same-length-11 c = search needs
+same-length-11 c = c .before .before .before .before .before .before .before .before .before .before .before .before .before .before .before .before .before .before .before .before .before .before .before .before .before .before .before .before .before .accumulate .kept .1 .1 .1 .0
 
 same-length-12 : tie.Need-same-length-12
-same-length-12 c = search needs
+same-length-12 c = c .before .before .before .before .before .before .before .before .before .before .before .before .before .before .before .before .before .before .before .before .before .before .before .before .before .before .before .before .before .accumulate .kept .1 .1 .1 .1 .0
 
 same-length-13 : tie.Need-same-length-13
-same-length-13 c = search needs
+same-length-13 c = c .before .before .before .before .before .before .before .before .before .before .before .before .before .before .before .pool-for .kept .1 .1 .1 .0
 
 same-length-14 : tie.Need-same-length-14
-same-length-14 c = search needs
+same-length-14 c = c .before .before .before .before .before .before .before .before .before .before .before .before .before .before .before .before .before .before .before .before .copy-cells .kept .0
 
 returns-2 : tie.Need-returns-2
 returns-2 c =

@@ -1,0 +1,30 @@
+use mathlib.Core.Path.{refl}
+use lib.Ieee.{ofBits}
+use Rattle.bench.specs.Exports.{codeOf, figureOf}
+use native.Mathlib.Omega.{arith}
+use borrow.Author.Needs.{needs}
+use Rattle.bench.proofs.put_kept.Statement.{statement}
+use Rattle.bench.proofs.put_kept.Tie as tie
+use Rattle.bench.proofs.put_kept.Reads as reads
+use Rattle.bench.proofs.put_kept.Lts as lts
+
+-- src/lib.rt:253:24
+enum-known-answer : tie.Need-enum-known-answer
+enum-known-answer c = search needs
+
+-- src/lib.rt:260:31
+enum-known-answer-2 : tie.Need-enum-known-answer-2
+enum-known-answer-2 c = search needs
+
+-- src/lib.rt:247:1
+returns : tie.Need-returns
+unfolding codeOf figureOf
+returns c = rw (c .before .answer .given .1) (refl, (refl, refl))
+
+-- src/lib.rt:247:1
+returns-2 : tie.Need-returns-2
+unfolding codeOf figureOf ofBits
+returns-2 c = rw (c .before .answer2 .given .1) (refl, (refl, refl))
+
+pub put-kept-spec : {M : Type 1} → statement M
+put-kept-spec = tie.close (tie.spec enum-known-answer enum-known-answer-2 returns returns-2)
