@@ -23,7 +23,7 @@ use Rattle.kmeans.specs.Inside.{heldOf}
 use Rattle.steps.proofs.Rooms.{Room, room-in}
 use Rattle.kmeans.proofs.Rooms.{Spaces, spaces-in, spaces-out}
 use Rattle.steps.proofs.Selects.{Selected}
-use Rattle.steps.proofs.Iterations.{Fitted}
+use Rattle.steps.specs.Inside.{Fitted}
 
 module _ (draws : List ℕ) (k dim block : ℕ) (training : List Row) (iterations : ℕ) where
   -- one restart, after n draws

@@ -9,7 +9,7 @@ use lib.Dec.{T}
 use lib.Ieee.{Float, Format, nan, fits, ofBits, toBits}
 use lib.Ieee.Bits.{ofBits-toBits}
 use lib.ListN.{length, getD, set, take, drop, replicate, length-drop, length-map, length-replicate, length-set, length-take, getD-replicate}
-use lib.Seq.{getD-set-same, take-all, take-suc}
+use lib.Seq.{getD-set-same, set-getD, set-set, take-all, take-suc}
 use Rattle.sums.specs.Rows.{Row, rowsFrom}
 use Rattle.sums.specs.Sums.{addRow, zeroRow}
 use Rattle.sums.specs.declared.draws.Cursor.{Cursor}
@@ -46,16 +46,6 @@ module _ {A B : Type 0} where
   map-one f (suc n) x = ap (λ (l : List B). f x ∷ l) (map-one f n x)
 
 module _ {A : Type 0} where
-  set-itself : (l : List A) (i : ℕ) (d : A) → i < length l → set l i (getD l i d) ≡ l
-  set-itself [] i d h = absurd (not-suc-le-zero h)
-  set-itself (x ∷ l) zero d h = refl
-  set-itself (x ∷ l) (suc i) d h = ap (λ (m : List A). x ∷ m) (set-itself l i d (omega arith))
-
-  set-again : (l : List A) (i : ℕ) (x y : A) → set (set l i x) i y ≡ set l i y
-  set-again [] i x y = refl
-  set-again (z ∷ l) zero x y = refl
-  set-again (z ∷ l) (suc i) x y = ap (λ (m : List A). z ∷ m) (set-again l i x y)
-
   -- every row after the first is the one before it, so all are the first
   pub rows-one : (dim n : ℕ) (t : List A) → length t ≡ n * dim → drop dim t ≡ take (length t - dim) t → rowsFrom dim n t ≡ replicate n (take dim t)
   unfolding rowsFrom
@@ -87,12 +77,12 @@ label-below-one dim k centroids row h =
 -- ---- counts and sums where every label is the same
 counts-one : (counts : List ℕ) (n c : ℕ) → c < length counts → countsFrom counts (replicate n c) ≡ set counts c (getD counts c 0 + n)
 unfolding countsFrom
-counts-one counts zero c h = let e : getD counts c 0 + 0 ≡ getD counts c 0 = omega arith in rw e (sym (set-itself counts c 0 h))
+counts-one counts zero c h = let e : getD counts c 0 + 0 ≡ getD counts c 0 = omega arith in rw e (sym (set-getD counts c 0))
 counts-one counts (suc n) c h =
     let g = getD counts c 0 in
     let l : c < length (set counts c (suc g)) = rw (length-set counts c (suc g)) h in
     let e : suc g + n ≡ g + suc n = omega arith in
-    counts-one (set counts c (suc g)) n c l ∙ rw (getD-set-same counts c (suc g) 0 h, set-again counts c (suc g) (suc g + n), e)
+    counts-one (set counts c (suc g)) n c l ∙ rw (getD-set-same counts c (suc g) 0 h, set-set counts c (suc g) (suc g + n), e)
 
 pub below-zeros : (m n : ℕ) → 0 < m → Below m (replicate n 0)
 below-zeros m n h i l = rw (getD-replicate {A = ℕ} n i 0 0 (rw (length-replicate {A = ℕ} n 0) at l)) h
@@ -109,11 +99,11 @@ adds (suc n) sum row = adds n (addRow sum row) row
 
 sums-one : (sums : List Row) (n c : ℕ) (row : Row) → c < length sums → sumsFrom sums (replicate n c) (replicate n row) ≡ set sums c (adds n (getD sums c []) row)
 unfolding sumsFrom adds
-sums-one sums zero c row h = sym (set-itself sums c [] h)
+sums-one sums zero c row h = sym (set-getD sums c [])
 sums-one sums (suc n) c row h =
     let g = addRow (getD sums c []) row in
     let l : c < length (set sums c g) = rw (length-set sums c g) h in
-    sums-one (set sums c g) n c row l ∙ rw (getD-set-same sums c g [] h, set-again sums c g (adds n g row))
+    sums-one (set sums c g) n c row l ∙ rw (getD-set-same sums c g [] h, set-set sums c g (adds n g row))
 
 -- ---- refills from training rows that are all one row, by as many positions of either
 Only : Row → List Row → Type 0

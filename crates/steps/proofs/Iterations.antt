@@ -23,7 +23,7 @@ use Rattle.sums.proofs.Refusing.{same-is, both}
 use Rattle.labels.proofs.Assigns.{Assigned}
 use Rattle.steps.specs.declared.lloyd.Iterated.{Iterated}
 use Rattle.steps.specs.Steps.{Fit, update, iterate, updateFrom, drawsAfter, countsFrom, sumsFrom, timesInverse}
-use Rattle.steps.specs.Inside.{Filled, repeats}
+use Rattle.steps.specs.Inside.{Filled, Fitted, repeats}
 use Rattle.steps.proofs.Summing.{Summed}
 use Rattle.steps.proofs.Updates.{Updated}
 
@@ -185,12 +185,6 @@ pub record Lengths (centroids₀ : List Float) (labels₀ : List ℕ) (distances
   pub l-totals : length totals ≡ length totals₀
   pub l-at : length at ≡ length at₀
   pub l-prior : length prior ≡ length prior₀
-
--- all the iterations asked for, from centroids and a cursor
-abbrev pub Fitted : List ℕ → ℕ → ℕ → ℕ → List Row → ℕ → List Row → Cursor → List Row → Cursor → Type 0
-Fitted draws k dim block training left centroids₀ cursor centroids r =
-    let after : ℕ → Fit = λ n. iterate draws k dim block training left (record { centroids = centroids₀; made = n }) in
-    Drawn draws cursor r centroids (λ n. after n .centroids) (λ n. after n .made)
 
 module _ (draws : List ℕ) (k dim block : ℕ) (training : List Row) (total : ℕ) (centroids₀ : List Row) (c₀ : Cursor) where
   -- the centroids are what an update with these labels and positions gave

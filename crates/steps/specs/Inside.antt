@@ -9,8 +9,10 @@ use lib.Ieee.{Float}
 use Rattle.sums.specs.Rows.{Row}
 use Rattle.sums.specs.Sums.{zeroRow}
 use Rattle.sums.specs.Cells.{Below}
+use Rattle.sums.specs.declared.draws.Cursor.{Cursor}
+use Rattle.sums.specs.Draws.{Drawn}
 use Rattle.pool.specs.Pool.{pool}
-use Rattle.steps.specs.Steps.{sumsFrom}
+use Rattle.steps.specs.Steps.{Fit, sumsFrom, iterate}
 
 -- the values of a row, the clusters and the rows are within 01's ranges
 abbrev pub Limits : ℕ → ℕ → ℕ → Type 0
@@ -35,6 +37,12 @@ repeats (suc c ∷ counts) new old = repeats counts new old
 repeats (zero ∷ counts) [] old = false
 repeats (zero ∷ counts) (p ∷ new) [] = false
 repeats (zero ∷ counts) (p ∷ new) (q ∷ old) = eqb p q && repeats counts new old
+
+-- all the iterations asked for were made (01, 'K-means' step 3), from these centroids and this cursor: what both are then
+abbrev pub Fitted : List ℕ → ℕ → ℕ → ℕ → List Row → ℕ → List Row → Cursor → List Row → Cursor → Type 0
+Fitted draws k dim block training iterations centroids₀ cursor centroids r =
+    let after : ℕ → Fit = λ n. iterate draws k dim block training iterations (record { centroids = centroids₀; made = n }) in
+    Drawn draws cursor r centroids (λ n. after n .centroids) (λ n. after n .made)
 
 -- what stands for `count` rows that are all one row: their sum, and a position for each of the first k of their pool
 pub record Alike (k dim block count : ℕ) (row sum : Row) (spare : List ℕ) : Type 0 where

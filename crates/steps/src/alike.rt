@@ -12,8 +12,8 @@ ghost use Rattle.sums.specs.Draws.{Drawn};
 ghost use Rattle.labels.specs.Label.{nearest as Label·nearest, nearests};
 ghost use Rattle.labels.specs.Inside.{normsOf};
 ghost use Rattle.pool.specs.Pool.{pool as Pool·pool};
-ghost use Rattle.steps.specs.Steps.{sumsFrom, update as Steps·update, iterate};
-ghost use Rattle.steps.specs.Inside.{Limits, Alike, roomOf};
+ghost use Rattle.steps.specs.Steps.{sumsFrom, update as Steps·update};
+ghost use Rattle.steps.specs.Inside.{Limits, Alike, Fitted, roomOf};
 use crate::lloyd;
 use crate::update;
 use labels::nearest;
@@ -122,7 +122,7 @@ fn run_alike_iterations(
     requires { ⌜ Limits (length (now row)) (length (now counts)) 1 × ((length (now sum) ≡ length (now row)) × ((length (now centroids) ≡ length (now counts) * length (now row)) × (length (now totals) ≡ length (now counts) * length (now row)))) ⌝ }
     requires { ⌜ (now own ≡ normsOf (now row ∷ [])) × Below 1 (now spare) ⌝ }
     requires { ⌜ cursor .at < length (now draws) ⌝ }
-    ensures { λ r. ⌜ ((block : ℕ) → Alike (length (now (counts .entry))) (length (now (row .entry))) block count (now (row .entry)) (now (sum .entry)) (now (spare .entry)) → Drawn (now (draws .entry)) cursor r (rowsFrom (length (now (row .entry))) (length (now (counts .entry))) (now (centroids .exit))) (λ n. (iterate (now (draws .entry)) (length (now (counts .entry))) (length (now (row .entry))) block (replicate count (now (row .entry))) iterations (record { centroids = rowsFrom (length (now (row .entry))) (length (now (counts .entry))) (now (centroids .entry)); made = n })) .centroids) (λ n. (iterate (now (draws .entry)) (length (now (counts .entry))) (length (now (row .entry))) block (replicate count (now (row .entry))) iterations (record { centroids = rowsFrom (length (now (row .entry))) (length (now (counts .entry))) (now (centroids .entry)); made = n })) .made)) ⌝ }
+    ensures { λ r. ⌜ ((block : ℕ) → Alike (length (now (counts .entry))) (length (now (row .entry))) block count (now (row .entry)) (now (sum .entry)) (now (spare .entry)) → Fitted (now (draws .entry)) (length (now (counts .entry))) (length (now (row .entry))) block (replicate count (now (row .entry))) iterations (rowsFrom (length (now (row .entry))) (length (now (counts .entry))) (now (centroids .entry))) cursor (rowsFrom (length (now (row .entry))) (length (now (counts .entry))) (now (centroids .exit))) r) ⌝ }
 {
     let mut place = cursor;
     let mut i = 0usize;
@@ -182,7 +182,7 @@ fn run_alike(
     requires { ⌜ now own ≡ normsOf (rowsFrom dim (length (now labels)) (now training)) ⌝ }
     requires { ⌜ cursor .at < length (now draws) ⌝ }
     requires { ⌜ rowsFrom dim (length (now labels)) (now training) ≡ replicate (length (now labels)) (take dim (now training)) ⌝ }
-    ensures { λ r. ⌜ Drawn (now (draws .entry)) cursor r (rowsFrom dim k (now (centroids .exit))) (λ n. (iterate (now (draws .entry)) k dim block (rowsFrom dim (length (now (labels .entry))) (now (training .entry))) iterations (record { centroids = (rowsFrom dim k (now (centroids .entry))); made = n })) .centroids) (λ n. (iterate (now (draws .entry)) k dim block (rowsFrom dim (length (now (labels .entry))) (now (training .entry))) iterations (record { centroids = (rowsFrom dim k (now (centroids .entry))); made = n })) .made) ⌝ }
+    ensures { λ r. ⌜ Fitted (now (draws .entry)) k dim block (rowsFrom dim (length (now (labels .entry))) (now (training .entry))) iterations (rowsFrom dim k (now (centroids .entry))) cursor (rowsFrom dim k (now (centroids .exit))) r ⌝ }
 {
     let width = k * dim;
     let mut sum = [0.0f32; 64];
@@ -224,7 +224,7 @@ pub fn run_lloyd_iterations(
     requires { ⌜ (Limits dim k (length (now labels)) × ((0 < length (now labels)) × (0 < block))) × ((length (now training) ∷ length (now own) ∷ length (now centroids) ∷ length (now distances) ∷ []) ≡ roomOf dim (length (now labels)) k) ⌝ }
     requires { ⌜ now own ≡ normsOf (rowsFrom dim (length (now labels)) (now training)) ⌝ }
     requires { ⌜ cursor .at < length (now draws) ⌝ }
-    ensures { λ r. ⌜ Drawn (now (draws .entry)) cursor r (rowsFrom dim k (now (centroids .exit))) (λ n. (iterate (now (draws .entry)) k dim block (rowsFrom dim (length (now (labels .entry))) (now (training .entry))) iterations (record { centroids = (rowsFrom dim k (now (centroids .entry))); made = n })) .centroids) (λ n. (iterate (now (draws .entry)) k dim block (rowsFrom dim (length (now (labels .entry))) (now (training .entry))) iterations (record { centroids = (rowsFrom dim k (now (centroids .entry))); made = n })) .made) ⌝ }
+    ensures { λ r. ⌜ Fitted (now (draws .entry)) k dim block (rowsFrom dim (length (now (labels .entry))) (now (training .entry))) iterations (rowsFrom dim k (now (centroids .entry))) cursor (rowsFrom dim k (now (centroids .exit))) r ⌝ }
 {
     if rows_alike(training, dim, labels.len()) {
         return run_alike(

@@ -11,8 +11,8 @@ ghost use Rattle.sums.specs.Draws.{Drawn};
 ghost use Rattle.labels.specs.Label.{nearests, labelsOf};
 ghost use Rattle.pool.specs.Pool.{pool as Pool·pool};
 ghost use Rattle.labels.specs.Inside.{normsOf};
-ghost use Rattle.steps.specs.Steps.{countsFrom, sumsFrom, updateFrom, drawsAfter, update as Steps·update, iterate};
-ghost use Rattle.steps.specs.Inside.{Limits, Filled, repeats, roomOf};
+ghost use Rattle.steps.specs.Steps.{countsFrom, sumsFrom, updateFrom, drawsAfter, update as Steps·update};
+ghost use Rattle.steps.specs.Inside.{Limits, Filled, Fitted, repeats, roomOf};
 use crate::update;
 use labels::nearest;
 use sums::cells;
@@ -198,7 +198,7 @@ fn run_iterations(
     requires { ⌜ (length (now totals) ≡ length (now counts) * dim) × ((length (now at) ≡ length (now counts)) × (length (now prior) ≡ length (now counts))) ⌝ }
     requires { ⌜ now own ≡ normsOf (rowsFrom dim (length (now labels)) (now training)) ⌝ }
     requires { ⌜ cursor .at < length (now draws) ⌝ }
-    ensures { λ r. ⌜ Drawn (now (draws .entry)) cursor r (rowsFrom dim (length (now (counts .entry))) (now (centroids .exit))) (λ n. (iterate (now (draws .entry)) (length (now (counts .entry))) dim block (rowsFrom dim (length (now (labels .entry))) (now (training .entry))) iterations (record { centroids = (rowsFrom dim (length (now (counts .entry))) (now (centroids .entry))); made = n })) .centroids) (λ n. (iterate (now (draws .entry)) (length (now (counts .entry))) dim block (rowsFrom dim (length (now (labels .entry))) (now (training .entry))) iterations (record { centroids = (rowsFrom dim (length (now (counts .entry))) (now (centroids .entry))); made = n })) .made) ⌝ }
+    ensures { λ r. ⌜ Fitted (now (draws .entry)) (length (now (counts .entry))) dim block (rowsFrom dim (length (now (labels .entry))) (now (training .entry))) iterations (rowsFrom dim (length (now (counts .entry))) (now (centroids .entry))) cursor (rowsFrom dim (length (now (counts .entry))) (now (centroids .exit))) r ⌝ }
 {
     let mut place = cursor;
     let mut held = 0usize;
@@ -249,7 +249,7 @@ pub fn run_any(
     requires { ⌜ (Limits dim k (length (now labels)) × ((0 < length (now labels)) × (0 < block))) × ((length (now training) ∷ length (now own) ∷ length (now centroids) ∷ length (now distances) ∷ []) ≡ roomOf dim (length (now labels)) k) ⌝ }
     requires { ⌜ now own ≡ normsOf (rowsFrom dim (length (now labels)) (now training)) ⌝ }
     requires { ⌜ cursor .at < length (now draws) ⌝ }
-    ensures { λ r. ⌜ Drawn (now (draws .entry)) cursor r (rowsFrom dim k (now (centroids .exit))) (λ n. (iterate (now (draws .entry)) k dim block (rowsFrom dim (length (now (labels .entry))) (now (training .entry))) iterations (record { centroids = (rowsFrom dim k (now (centroids .entry))); made = n })) .centroids) (λ n. (iterate (now (draws .entry)) k dim block (rowsFrom dim (length (now (labels .entry))) (now (training .entry))) iterations (record { centroids = (rowsFrom dim k (now (centroids .entry))); made = n })) .made) ⌝ }
+    ensures { λ r. ⌜ Fitted (now (draws .entry)) k dim block (rowsFrom dim (length (now (labels .entry))) (now (training .entry))) iterations (rowsFrom dim k (now (centroids .entry))) cursor (rowsFrom dim k (now (centroids .exit))) r ⌝ }
 {
     let width = k * dim;
     let mut counts = [0u16; 64];
