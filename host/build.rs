@@ -1,4 +1,4 @@
-//! Links the static library that `rt staticlib bench` writes.
+//! Links the static library that `rt staticlib exports` writes.
 
 use std::path::Path;
 
@@ -9,8 +9,8 @@ fn main() {
     let folder = root.join("target").join("staticlib");
     println!(
         "cargo:rerun-if-changed={}",
-        folder.join("libbench.a").display()
+        folder.join("libexports.a").display()
     );
     println!("cargo:rustc-link-search=native={}", folder.display());
-    println!("cargo:rustc-link-lib=static=bench");
+    println!("cargo:rustc-link-lib=static=exports");
 }

@@ -1,6 +1,7 @@
-//! The exported functions, each behind a safe wrapper: the only unsafe code there is. A slice goes as its pointer and its
-//! length, so nothing is asked of the caller.
+//! The exported functions, each behind a safe wrapper. A slice goes as its pointer and its length, and a call that its thread has too
+//! little stack for is made on another, so nothing is asked of the caller.
 
+use crate::stack;
 pub use crate::work::{GroupWork, KMeansWork};
 
 extern "C" {
@@ -60,16 +61,6 @@ extern "C" {
         restart: *mut u32,
         training: *mut f32,
         training_cells: usize,
-        own: *mut f32,
-        own_cells: usize,
-        training_own: *mut f32,
-        training_own_cells: usize,
-        distances: *mut f32,
-        distance_cells: usize,
-        trial_labels: *mut u16,
-        trial_cells: usize,
-        places: *mut u16,
-        place_cells: usize,
     ) -> u32;
 
     fn families_group(
@@ -91,26 +82,10 @@ extern "C" {
         mean_cells: usize,
         groups: *mut u32,
         splits: *mut u32,
-        waiting: *mut u16,
-        waiting_cells: usize,
-        copied: *mut u16,
-        copied_cells: usize,
-        labels: *mut u16,
-        label_cells: usize,
         gathered: *mut f32,
         gathered_cells: usize,
         training: *mut f32,
         training_cells: usize,
-        own: *mut f32,
-        own_cells: usize,
-        training_own: *mut f32,
-        training_own_cells: usize,
-        distances: *mut f32,
-        distance_cells: usize,
-        trial_labels: *mut u16,
-        trial_cells: usize,
-        places: *mut u16,
-        place_cells: usize,
     ) -> u32;
 
     fn families_list(file: *const u8, file_bytes: usize, text: *mut u8, text_bytes: usize) -> u32;
@@ -118,7 +93,7 @@ extern "C" {
 
 /// The label of one row, in two result bytes: 0, or the refusal's number.
 pub fn label(dim: u32, k: u32, row: &[u8], centroids: &[u8], result: &mut [u8]) -> u32 {
-    unsafe {
+    stack::with(stack::LABEL, || unsafe {
         families_label(
             dim,
             k,
@@ -129,7 +104,7 @@ pub fn label(dim: u32, k: u32, row: &[u8], centroids: &[u8], result: &mut [u8]) 
             result.as_mut_ptr(),
             result.len(),
         )
-    }
+    })
 }
 
 /// The families that a row is offered: a cell for each centroid and how many are listed, two bytes each.
@@ -142,7 +117,7 @@ pub fn closure(
     centroids: &[u8],
     result: &mut [u8],
 ) -> u32 {
-    unsafe {
+    stack::with(stack::CLOSURE, || unsafe {
         families_closure(
             dim,
             count,
@@ -155,7 +130,7 @@ pub fn closure(
             result.as_mut_ptr(),
             result.len(),
         )
-    }
+    })
 }
 
 /// The labels of many rows, over typed slices.
@@ -167,7 +142,7 @@ pub fn label_rows(
     centroids: &[f32],
     labels: &mut [u16],
 ) -> u32 {
-    unsafe {
+    stack::with(stack::LABEL_ROWS, || unsafe {
         families_label_rows(
             rows,
             dim,
@@ -179,7 +154,7 @@ pub fn label_rows(
             labels.as_mut_ptr(),
             labels.len(),
         )
-    }
+    })
 }
 
 /// The numbers of a k-means call.
@@ -214,7 +189,7 @@ pub fn kmeans(
     // Figures that no refusal gives, so that one which the callee leaves alone shows.
     let mut objective = f64::NAN;
     let mut restart = u32::MAX;
-    let number = unsafe {
+    let number = stack::with(stack::KMEANS, || unsafe {
         families_kmeans(
             numbers.rows,
             numbers.dim,
@@ -235,18 +210,8 @@ pub fn kmeans(
             &mut restart,
             work.training.as_mut_ptr(),
             work.training.len(),
-            work.own.as_mut_ptr(),
-            work.own.len(),
-            work.training_own.as_mut_ptr(),
-            work.training_own.len(),
-            work.distances.as_mut_ptr(),
-            work.distances.len(),
-            work.trial_labels.as_mut_ptr(),
-            work.trial_labels.len(),
-            work.places.as_mut_ptr(),
-            work.places.len(),
         )
-    };
+    });
     KMeansTold {
         number,
         objective,
@@ -286,8 +251,7 @@ pub fn group(
     // Figures that no call gives, so that one which the callee leaves alone shows.
     let mut groups = u32::MAX;
     let mut splits = u32::MAX;
-    let kmeans = &mut work.kmeans;
-    let number = unsafe {
+    let number = stack::with(stack::GROUP, || unsafe {
         families_group(
             numbers.rows,
             numbers.dim,
@@ -307,28 +271,12 @@ pub fn group(
             means.len(),
             &mut groups,
             &mut splits,
-            work.waiting.as_mut_ptr(),
-            work.waiting.len(),
-            work.copied.as_mut_ptr(),
-            work.copied.len(),
-            work.labels.as_mut_ptr(),
-            work.labels.len(),
             work.gathered.as_mut_ptr(),
             work.gathered.len(),
-            kmeans.training.as_mut_ptr(),
-            kmeans.training.len(),
-            kmeans.own.as_mut_ptr(),
-            kmeans.own.len(),
-            kmeans.training_own.as_mut_ptr(),
-            kmeans.training_own.len(),
-            kmeans.distances.as_mut_ptr(),
-            kmeans.distances.len(),
-            kmeans.trial_labels.as_mut_ptr(),
-            kmeans.trial_labels.len(),
-            kmeans.places.as_mut_ptr(),
-            kmeans.places.len(),
+            work.training.as_mut_ptr(),
+            work.training.len(),
         )
-    };
+    });
     GroupTold {
         number,
         groups,
@@ -338,5 +286,7 @@ pub fn group(
 
 /// The listing of a batch file: how many bytes it has, and as many of them as there is room for.
 pub fn list(file: &[u8], text: &mut [u8]) -> u32 {
-    unsafe { families_list(file.as_ptr(), file.len(), text.as_mut_ptr(), text.len()) }
+    stack::with(stack::LIST, || unsafe {
+        families_list(file.as_ptr(), file.len(), text.as_mut_ptr(), text.len())
+    })
 }

@@ -1,75 +1,47 @@
 //! The slices that calls work in; docs/BUFFERS.md has their lengths.
 
-/// The slices that k-means works in.
+/// The slice that k-means works in.
 #[derive(Clone, Debug, PartialEq)]
 pub struct KMeansWork {
     pub training: Vec<f32>,
-    pub own: Vec<f32>,
-    pub training_own: Vec<f32>,
-    pub distances: Vec<f32>,
-    pub trial_labels: Vec<u16>,
-    pub places: Vec<u16>,
 }
 
 impl KMeansWork {
-    /// Slices of the right lengths, with these values in them.
-    pub fn new(rows: usize, dim: usize, float: f32, cell: u16) -> Self {
+    /// A slice of the right length, with this value in it.
+    pub fn new(rows: usize, dim: usize, value: f32) -> Self {
         Self {
-            training: vec![float; rows * dim],
-            own: vec![float; rows],
-            training_own: vec![float; rows],
-            distances: vec![float; rows],
-            trial_labels: vec![cell; rows],
-            places: vec![cell; rows],
+            training: vec![value; rows * dim],
         }
     }
 
     /// All bits of all cells are zero.
     pub fn is_zero(&self) -> bool {
-        floats_are_zero(&[
-            &self.training,
-            &self.own,
-            &self.training_own,
-            &self.distances,
-        ]) && cells_are_zero(&[&self.trial_labels, &self.places])
+        is_zero(&self.training)
     }
 }
 
-/// The slices that grouping works in: its own, and those of the k-means of a split.
+/// The slices that grouping works in.
 #[derive(Clone, Debug, PartialEq)]
 pub struct GroupWork {
-    pub waiting: Vec<u16>,
-    pub copied: Vec<u16>,
-    pub labels: Vec<u16>,
     pub gathered: Vec<f32>,
-    pub kmeans: KMeansWork,
+    pub training: Vec<f32>,
 }
 
 impl GroupWork {
-    /// Slices of the right lengths, with these values in them.
-    pub fn new(rows: usize, dim: usize, float: f32, cell: u16) -> Self {
+    /// Slices of the right lengths, with this value in them.
+    pub fn new(rows: usize, dim: usize, value: f32) -> Self {
         Self {
-            waiting: vec![cell; rows],
-            copied: vec![cell; rows],
-            labels: vec![cell; rows],
-            gathered: vec![float; rows * dim],
-            kmeans: KMeansWork::new(rows, dim, float, cell),
+            gathered: vec![value; rows * dim],
+            training: vec![value; rows * dim],
         }
     }
 
     /// All bits of all cells are zero.
     pub fn is_zero(&self) -> bool {
-        cells_are_zero(&[&self.waiting, &self.copied, &self.labels])
-            && floats_are_zero(&[&self.gathered])
-            && self.kmeans.is_zero()
+        is_zero(&self.gathered) && is_zero(&self.training)
     }
 }
 
-fn floats_are_zero(slices: &[&[f32]]) -> bool {
-    let mut values = slices.iter().copied().flatten();
-    values.all(|value| value.to_bits() == 0)
-}
-
-fn cells_are_zero(slices: &[&[u16]]) -> bool {
-    slices.iter().copied().flatten().all(|&cell| cell == 0)
+fn is_zero(values: &[f32]) -> bool {
+    values.iter().all(|value| value.to_bits() == 0)
 }

@@ -48,7 +48,7 @@ fn call(values: &[f32], numbers: GroupNumbers, work: &mut GroupWork) -> Call {
 }
 
 fn fitting(values: &[f32], limit: u32, branching: u32, weight: f32, budget: u32) -> Call {
-    let mut work = GroupWork::new(values.len(), 1, STALE_FLOAT, STALE_CELL);
+    let mut work = GroupWork::new(values.len(), 1, STALE_FLOAT);
     let numbers = numbers(values.len(), limit, branching, weight, budget);
     call(values, numbers, &mut work)
 }
@@ -109,26 +109,20 @@ fn numbers_out_of_range_are_refused_by_1() {
     assert_refused(&fitting(&values, 2, 2, 0.0, 8_193), 1);
 }
 
-/// One of the ten work slices, made longer by a cell.
-type Longer = fn(&mut GroupWork);
+/// A work slice made longer or shorter by a cell.
+type Change = fn(&mut GroupWork);
 
 #[test]
 fn each_work_slice_of_another_length_is_refused_by_2() {
-    let changes: [Longer; 10] = [
-        |work| work.waiting.push(STALE_CELL),
-        |work| work.copied.push(STALE_CELL),
-        |work| work.labels.push(STALE_CELL),
+    let changes: [Change; 4] = [
         |work| work.gathered.push(STALE_FLOAT),
-        |work| work.kmeans.training.push(STALE_FLOAT),
-        |work| work.kmeans.own.push(STALE_FLOAT),
-        |work| work.kmeans.training_own.push(STALE_FLOAT),
-        |work| work.kmeans.distances.push(STALE_FLOAT),
-        |work| work.kmeans.trial_labels.push(STALE_CELL),
-        |work| work.kmeans.places.push(STALE_CELL),
+        |work| work.gathered.truncate(3),
+        |work| work.training.push(STALE_FLOAT),
+        |work| work.training.truncate(3),
     ];
     let values = [0.0, 1.0, 10.0, 11.0];
     for change in changes {
-        let mut work = GroupWork::new(values.len(), 1, STALE_FLOAT, STALE_CELL);
+        let mut work = GroupWork::new(values.len(), 1, STALE_FLOAT);
         change(&mut work);
         let numbers = numbers(values.len(), 2, 2, 0.0, 4);
         assert_refused(&call(&values, numbers, &mut work), 2);

@@ -9,7 +9,7 @@ typedef __UINTPTR_TYPE__ uintptr_t;
 typedef __SIZE_TYPE__ size_t;
 
 enum { LABEL, CLOSURE, LABEL_ROWS, KMEANS, GROUP, LIST };
-enum { NUMBERS = 8, MOST_SLICES = 20 };
+enum { NUMBERS = 8, MOST_SLICES = 9 };
 
 struct header {
     uint32_t which;

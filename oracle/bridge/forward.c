@@ -1,4 +1,4 @@
-// Stands in for libbench.a where it cannot be linked: each exported function hands its call to the program SERVER, which has the real
+// Stands in for libexports.a where it cannot be linked: each exported function hands its call to the program SERVER, which has the real
 // library, and takes over what that left in the lent slices. SERVER is a shell command.
 #include "calls.h"
 #include <pthread.h>
@@ -101,24 +101,20 @@ uint32_t families_label_rows(uint32_t rows, uint32_t dim, uint32_t k, SLICE(cons
 
 uint32_t families_kmeans(uint32_t rows, uint32_t dim, uint32_t k, uint32_t iterations, uint32_t restarts, uint32_t points, uint32_t block,
                          SLICE(const uint32_t, draws), SLICE(const float, values), SLICE(uint16_t, labels), SLICE(float, centroids),
-                         double *objective, uint32_t *restart, SLICE(float, training), SLICE(float, own), SLICE(float, training_own),
-                         SLICE(float, distances), SLICE(uint16_t, trial_labels), SLICE(uint16_t, places)) {
+                         double *objective, uint32_t *restart, SLICE(float, training)) {
     struct lent lent[] = {
-        READ(draws),       READ(values),          WRITTEN(labels),    WRITTEN(centroids),    FIGURE(objective), FIGURE(restart),
-        WRITTEN(training), WRITTEN(own),          WRITTEN(training_own), WRITTEN(distances), WRITTEN(trial_labels), WRITTEN(places),
+        READ(draws),       READ(values),    WRITTEN(labels),   WRITTEN(centroids),
+        FIGURE(objective), FIGURE(restart), WRITTEN(training),
     };
     FORWARD(KMEANS, rows, dim, k, iterations, restarts, points, block);
 }
 
 uint32_t families_group(uint32_t rows, uint32_t dim, uint32_t limit, uint32_t branching, float weight, uint32_t budget,
                         SLICE(const uint32_t, draws), SLICE(const float, values), SLICE(uint16_t, order), SLICE(uint16_t, ends),
-                        SLICE(float, means), uint32_t *groups, uint32_t *splits, SLICE(uint16_t, waiting), SLICE(uint16_t, copied),
-                        SLICE(uint16_t, labels), SLICE(float, gathered), SLICE(float, training), SLICE(float, own),
-                        SLICE(float, training_own), SLICE(float, distances), SLICE(uint16_t, trial_labels), SLICE(uint16_t, places)) {
+                        SLICE(float, means), uint32_t *groups, uint32_t *splits, SLICE(float, gathered), SLICE(float, training)) {
     struct lent lent[] = {
-        READ(draws),       READ(values),      WRITTEN(order),    WRITTEN(ends),      WRITTEN(means), FIGURE(groups),
-        FIGURE(splits),    WRITTEN(waiting),  WRITTEN(copied),   WRITTEN(labels),    WRITTEN(gathered), WRITTEN(training),
-        WRITTEN(own),      WRITTEN(training_own), WRITTEN(distances), WRITTEN(trial_labels), WRITTEN(places),
+        READ(draws),    READ(values),   WRITTEN(order),    WRITTEN(ends),     WRITTEN(means),
+        FIGURE(groups), FIGURE(splits), WRITTEN(gathered), WRITTEN(training),
     };
     FORWARD(GROUP, rows, dim, limit, branching, bits(weight), budget);
 }

@@ -1,4 +1,4 @@
-// Has the real libbench.a, for x86-64, and makes the calls that come on standard input; needs no C library. An inaccessible page stands
+// Has the real libexports.a, for x86-64, and makes the calls that come on standard input; needs no C library. An inaccessible page stands
 // right behind the end of each lent slice, or in every other call right before its start, and marked bytes on its other side.
 #include "calls.h"
 
@@ -123,9 +123,8 @@ uint32_t families_label(uint32_t, uint32_t, TWO, TWO, TWO);
 uint32_t families_closure(uint32_t, uint32_t, uint16_t, float, TWO, TWO, TWO);
 uint32_t families_label_rows(uint32_t, uint32_t, uint32_t, TWO, TWO, TWO);
 uint32_t families_kmeans(uint32_t, uint32_t, uint32_t, uint32_t, uint32_t, uint32_t, uint32_t, TWO, TWO, TWO, TWO, double *, uint32_t *,
-                         TWO, TWO, TWO, TWO, TWO, TWO);
-uint32_t families_group(uint32_t, uint32_t, uint32_t, uint32_t, float, uint32_t, TWO, TWO, TWO, TWO, TWO, uint32_t *, uint32_t *, TWO, TWO,
-                        TWO, TWO, TWO, TWO, TWO, TWO, TWO, TWO);
+                         TWO);
+uint32_t families_group(uint32_t, uint32_t, uint32_t, uint32_t, float, uint32_t, TWO, TWO, TWO, TWO, TWO, uint32_t *, uint32_t *, TWO, TWO);
 uint32_t families_list(TWO, TWO);
 
 static uint32_t call(uint32_t which, const uint32_t *n) {
@@ -138,13 +137,12 @@ static uint32_t call(uint32_t which, const uint32_t *n) {
         return families_label_rows(n[0], n[1], n[2], SLICE(0), SLICE(1), SLICE(2));
     case KMEANS:
         return families_kmeans(n[0], n[1], n[2], n[3], n[4], n[5], n[6], SLICE(0), SLICE(1), SLICE(2), SLICE(3), FIGURE(4), FIGURE(5),
-                               SLICE(6), SLICE(7), SLICE(8), SLICE(9), SLICE(10), SLICE(11));
+                               SLICE(6));
     case LIST:
         return families_list(SLICE(0), SLICE(1));
     default:
         return families_group(n[0], n[1], n[2], n[3], float_of(n[4]), n[5], SLICE(0), SLICE(1), SLICE(2), SLICE(3), SLICE(4), FIGURE(5),
-                              FIGURE(6), SLICE(7), SLICE(8), SLICE(9), SLICE(10), SLICE(11), SLICE(12), SLICE(13), SLICE(14), SLICE(15),
-                              SLICE(16));
+                              FIGURE(6), SLICE(7), SLICE(8));
     }
 }
 

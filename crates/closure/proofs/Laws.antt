@@ -1,5 +1,5 @@
 -- Laws of closure's definitions, one for each turn and end of the code's loops. Assumes nothing.
-use Prim.Native.Nat.{ℕ, zero, suc, _+_, _-_, _*_, _≤_, _<_}
+use Prim.Native.Nat.{ℕ, zero, suc, _+_, _*_, _≤_, _<_, min}
 use mathlib.Core.Path.{_≡_, refl, sym, ap, _∙_}
 use mathlib.Core.Bool.{true, false, _&&_}
 use mathlib.Core.List.{List, [], _∷_, _++_, append-nil}
@@ -18,8 +18,8 @@ use Rattle.sums.specs.Cells.{inserted}
 use Rattle.sums.specs.Refusals.{padded, accepted, refused, onAccepted, cellsOf, within, unless, blankCell}
 use Rattle.sums.specs.Tables.{tabulate, upTo}
 use Rattle.sums.proofs.Rows.{map-rows, rows-length}
-use Rattle.closure.specs.declared.Reach.{Reach}
-use Rattle.closure.specs.declared.ClosureAnswer.the-variants.{Listed, Refused}
+use Rattle.closure.specs.declared.reach.Reach.{Reach}
+use Rattle.closure.specs.declared.call.ClosureAnswer.the-variants.{Listed, Refused}
 use Rattle.closure.specs.Closure.{nearer, inReach, anyNan, distances, closure, listed, unordered, reachOf}
 use Rattle.closure.specs.Call.{answered, closureRefusal, closureCall, Gives}
 use Rattle.sums.proofs.Fronts.{take-least}
@@ -97,7 +97,7 @@ closes ds [] epsilon replicas h = absurd (not-suc-le-zero h)
 closes ds (x ∷ at) epsilon replicas h = refl
 
 pub is-closure : (row : Row) (centroids : List Row) (epsilon : Float) (replicas : ℕ) (ds : List Float) (at : List ℕ) (reach : Reach) (most x : ℕ)
-    → ds ≡ distances row centroids → x ≡ getD at 0 0 → reach ≡ reachOf epsilon (getD ds x nan) → most ≡ replicas - (replicas - length at) → 0 < length at
+    → ds ≡ distances row centroids → x ≡ getD at 0 0 → reach ≡ reachOf epsilon (getD ds x nan) → most ≡ min replicas (length at) → 0 < length at
     → at ≡ order (nearer ds) (upTo (length ds)) → keep (inReach reach ds) (take most at) ≡ closure epsilon replicas row centroids
 unfolding closure
 is-closure row centroids epsilon replicas ds at reach most x d w r m s o = rw (← d, ← o, r, w, m, take-least replicas at) (closes ds at epsilon replicas s)

@@ -13,8 +13,8 @@ use Rattle.sums.specs.Ordering.{order}
 use Rattle.sums.specs.Cells.{Below}
 use Rattle.sums.specs.Refusals.{Answer}
 use Rattle.sums.proofs.Orders.{InOrder}
-use Rattle.closure.specs.declared.ClosureAnswer.{ClosureAnswer}
-use Rattle.closure.specs.declared.ClosureAnswer.the-variants.{Listed, Refused}
+use Rattle.closure.specs.declared.call.ClosureAnswer.{ClosureAnswer}
+use Rattle.closure.specs.declared.call.ClosureAnswer.the-variants.{Listed, Refused}
 use Rattle.closure.specs.Closure.{nearer, reachOf, distances, closure, unordered}
 use Rattle.closure.specs.Call.{told, Gives}
 use Rattle.sums.proofs.Pairs.{Pairs, all-at, pairs-at, pairs-in-order}

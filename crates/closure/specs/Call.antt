@@ -9,8 +9,8 @@ use lib.Ieee.{Float}
 use Rattle.sums.specs.Rows.{Row, rowsFrom}
 use Rattle.sums.specs.Refusals.{Answer, accepted, refused, within, lowest, unless, onAccepted, cellsOf, blankCell}
 use Rattle.closure.specs.Closure.{closure, distances, unordered}
-use Rattle.closure.specs.declared.ClosureAnswer.{ClosureAnswer}
-use Rattle.closure.specs.declared.ClosureAnswer.the-variants.{Listed, Refused}
+use Rattle.closure.specs.declared.call.ClosureAnswer.{ClosureAnswer}
+use Rattle.closure.specs.declared.call.ClosureAnswer.the-variants.{Listed, Refused}
 
 -- 1: dim or the count of centroids out of range; 2: a slice is not as long as they say
 unfoldable pub closureRefusal : ℕ → ℕ → ℕ → ℕ → ℕ → ℕ

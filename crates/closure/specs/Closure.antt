@@ -9,7 +9,7 @@ use Rattle.sums.specs.Rows.{Row}
 use Rattle.sums.specs.Sums.{one32, apartOf}
 use Rattle.sums.specs.Tables.{upTo}
 use Rattle.sums.specs.Ordering.{order, keep}
-use Rattle.closure.specs.declared.Reach.{Reach}
+use Rattle.closure.specs.declared.reach.Reach.{Reach}
 
 -- of two positions the one with the smaller distance comes first, and of two alike the earlier
 unfoldable pub nearer : List Float → ℕ → ℕ → Bool

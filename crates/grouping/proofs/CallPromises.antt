@@ -6,15 +6,19 @@ use mathlib.Core.List.{List, [], _∷_}
 use Prim.Native.Nat.{ℕ, zero, suc, _≤_, _<_}
 use native.Mathlib.Omega.{arith}
 use borrow.Author.Tests.{le-leb}
+use lib.Ieee.{Float}
 use lib.ListN.{length}
 use Rattle.sums.specs.Tables.{upTo}
+use Rattle.sums.specs.Rows.{rowsFrom}
+use Rattle.sums.proofs.Rows.{rows-length}
 use Rattle.sums.specs.Refusals.{Answer, accepted, refused, within, unless}
 use Rattle.sums.proofs.Refusing.{both, passed, lowest-none, lowest-when, lowest-most, lowest-only}
-use Rattle.splitting.specs.Groups.{Rule, Groups, partsOf, madeBy, waits, grouping, groupFrom}
+use Rattle.grouping.specs.declared.config.GroupingConfig.{GroupingConfig}
+use Rattle.grouping.specs.Groups.{Rule, ruleOf, Groups, partsOf, madeBy, waits, grouping, groupFrom}
 use Rattle.grouping.specs.Call.{rangesFit, lengthsFit, groupingRefusal, groupingCall}
-use Rattle.splitting.proofs.GroupPromises.{Listing, Passes, Small, Spent, Done, six-when, six-only, seven-when, seven-only, accepted-when, accepted-only, only-six-or-seven, budget-accepted, budget-six, accepted-listing}
+use Rattle.grouping.proofs.GroupPromises.{Listing, Passes, Small, Spent, Done, six-when, six-only, seven-when, seven-only, accepted-when, accepted-only, only-six-or-seven, budget-accepted, budget-six, accepted-listing}
 use Rattle.grouping.proofs.Calls.{Ranged, ranged}
-use Rattle.splitting.proofs.SplitPromises.{start, parts-kept, Splits, SplitPromise, each-split}
+use Rattle.grouping.proofs.SplitPromises.{start, parts-kept, Splits, SplitPromise, each-split}
 
 -- The numbers that a grouping call can be refused by.
 pub data Number : ℕ → Type 0 where
@@ -25,31 +29,38 @@ pub data Number : ℕ → Type 0 where
   spent : Number 7
 
 -- the budget alone may be another in range
-ranged-budget : (rows dim limit branching budget n : ℕ) → rangesFit rows dim limit branching budget ≡ true → n ≤ 8192 → rangesFit rows dim limit branching n ≡ true
+abbrev pub withBudget : GroupingConfig → ℕ → GroupingConfig
+withBudget config n = record { limit = config .limit; branching = config .branching; weight = config .weight; budget = n }
+
+ranged-budget : (rows dim : ℕ) (config : GroupingConfig) (n : ℕ) → rangesFit rows dim config ≡ true → n ≤ 8192 → rangesFit rows dim (withBudget config n) ≡ true
 unfolding rangesFit
-ranged-budget rows dim limit branching budget n e h =
-    let a : (within 0 4096 rows && within 1 64 dim && within 0 4096 limit && within 1 64 branching) ≡ true = both _ _ e .0 in
+ranged-budget rows dim config n e h =
+    let a : (within 0 4096 rows && within 1 64 dim && within 0 4096 (config .limit) && within 1 64 (config .branching)) ≡ true = both _ _ e .0 in
     rw (a, le-leb 0 n (omega arith), le-leb n 8192 h)
 
--- One call; the rule has its draws, readings, branching and weight.
-module _ (rule : Rule) (rows limit budget values : ℕ) (lent : List ℕ) where
+-- One call, with its settings, its draws, its readings one after the other, and the lengths of what is lent.
+module _ (rows dim : ℕ) (config : GroupingConfig) (drawn : List ℕ) (values : List Float) (lent : List ℕ) where
   abbrev pub call : Answer Groups
-  call = groupingCall rule rows limit budget values lent
+  call = groupingCall rows dim config drawn values lent
+
+  -- what its splits go by
+  abbrev pub rule : Rule
+  rule = ruleOf drawn dim (rowsFrom dim rows values) (config .branching) (config .weight)
 
   -- every number is in range
   abbrev pub ranges : Bool
-  ranges = rangesFit rows (rule .dim) limit (rule .branching) budget
+  ranges = rangesFit rows dim config
 
   -- every lent slice is as long as the numbers say
   abbrev pub slices : Bool
-  slices = lengthsFit rows (rule .dim) values lent
+  slices = lengthsFit rows dim (length values) lent
 
   -- there are from 1 to 4,096 draws
   abbrev pub draws : Bool
-  draws = within 1 4096 (length (rule .draws))
+  draws = within 1 4096 (length drawn)
 
   abbrev pub refusal : ℕ
-  refusal = groupingRefusal rows (rule .dim) limit (rule .branching) budget (length (rule .draws)) values lent
+  refusal = groupingRefusal rows dim config (length drawn) (length values) lent
 
   -- none of 1 to 4 refuses the call
   abbrev pub Passed : Type 0
@@ -57,21 +68,21 @@ module _ (rule : Rule) (rows limit budget values : ℕ) (lent : List ℕ) where
 
   -- the call comes to an oversize group that has fewer rows than branching
   abbrev pub MeetsSmall : Type 0
-  MeetsSmall = Small (partsOf rule) (madeBy rule) limit (rule .branching) budget 0 (start rule)
+  MeetsSmall = Small (partsOf rule) (madeBy rule) (config .limit) (config .branching) (config .budget) 0 (start rule)
 
   -- it comes to an oversize group that has no fewer, when the splits done equal the budget
   abbrev pub MeetsSpent : Type 0
-  MeetsSpent = Spent (partsOf rule) (madeBy rule) limit (rule .branching) budget 0 (start rule)
+  MeetsSpent = Spent (partsOf rule) (madeBy rule) (config .limit) (config .branching) (config .budget) 0 (start rule)
 
   -- it comes to where no group waits
   abbrev pub MeetsEnd : Type 0
-  MeetsEnd = Done (partsOf rule) (madeBy rule) limit (rule .branching) budget 0 (start rule)
+  MeetsEnd = Done (partsOf rule) (madeBy rule) (config .limit) (config .branching) (config .budget) 0 (start rule)
 
   abbrev tests : List Bool
   tests = ranges ∷ slices ∷ true ∷ draws ∷ []
 
   -- ---- the call by its refusal
-  call-passed : refusal ≡ 0 → call ≡ grouping rule limit budget
+  call-passed : refusal ≡ 0 → call ≡ grouping rule (config .limit) (config .budget)
   unfolding groupingCall unless
   call-passed e = rw e
 
@@ -88,7 +99,7 @@ module _ (rule : Rule) (rows limit budget values : ℕ) (lent : List ℕ) where
   early number h c = go refusal refl
     where
       go : (n : ℕ) → refusal ≡ n → refusal ≡ number
-      go zero e = elim (only-six-or-seven (partsOf rule) (madeBy rule) limit (rule .branching) budget 0 number (start rule) (sym (call-passed e) ∙ c)) [
+      go zero e = elim (only-six-or-seven (partsOf rule) (madeBy rule) (config .limit) (config .branching) (config .budget) 0 number (start rule) (sym (call-passed e) ∙ c)) [
         | inl z ↦ absurd (omega arith)
         | inr z ↦ absurd (omega arith)
       ]
@@ -132,30 +143,30 @@ module _ (rule : Rule) (rows limit budget values : ℕ) (lent : List ℕ) where
   -- Refused by 6 exactly when it comes to an oversize group that has fewer rows than branching.
   pub refused-six : (call ≡ refused 6) ↔ (Passed × MeetsSmall)
   refused-six = (
-    (λ c. let e = late 6 (omega arith) c in (e, six-only (partsOf rule) (madeBy rule) limit (rule .branching) budget 0 (start rule) (sym (call-passed e) ∙ c))),
-    (λ t. call-passed (t .0) ∙ six-when (partsOf rule) (madeBy rule) limit (rule .branching) budget 0 (start rule) (t .1)),
+    (λ c. let e = late 6 (omega arith) c in (e, six-only (partsOf rule) (madeBy rule) (config .limit) (config .branching) (config .budget) 0 (start rule) (sym (call-passed e) ∙ c))),
+    (λ t. call-passed (t .0) ∙ six-when (partsOf rule) (madeBy rule) (config .limit) (config .branching) (config .budget) 0 (start rule) (t .1)),
   )
 
   -- Refused by 7 exactly when it comes to an oversize group that has no fewer, and the splits done equal the budget.
   pub refused-seven : (call ≡ refused 7) ↔ (Passed × MeetsSpent)
   refused-seven = (
-    (λ c. let e = late 7 (omega arith) c in (e, seven-only (partsOf rule) (madeBy rule) limit (rule .branching) budget 0 (start rule) (sym (call-passed e) ∙ c))),
-    (λ t. call-passed (t .0) ∙ seven-when (partsOf rule) (madeBy rule) limit (rule .branching) budget 0 (start rule) (t .1)),
+    (λ c. let e = late 7 (omega arith) c in (e, seven-only (partsOf rule) (madeBy rule) (config .limit) (config .branching) (config .budget) 0 (start rule) (sym (call-passed e) ∙ c))),
+    (λ t. call-passed (t .0) ∙ seven-when (partsOf rule) (madeBy rule) (config .limit) (config .branching) (config .budget) 0 (start rule) (t .1)),
   )
 
   -- Accepted exactly when it comes to where no group waits.
   pub accepted-exactly : Passes call ↔ (Passed × MeetsEnd)
   accepted-exactly = (
     (λ p. to refusal refl p),
-    (λ t. rw (call-passed (t .0)) (accepted-when (partsOf rule) (madeBy rule) limit (rule .branching) budget 0 (start rule) (t .1))),
+    (λ t. rw (call-passed (t .0)) (accepted-when (partsOf rule) (madeBy rule) (config .limit) (config .branching) (config .budget) 0 (start rule) (t .1))),
   )
     where
-      done : (a : Answer Groups) → grouping rule limit budget ≡ a → Passes a → MeetsEnd
-      done (accepted g) e p = accepted-only (partsOf rule) (madeBy rule) limit (rule .branching) budget 0 (start rule) g e
+      done : (a : Answer Groups) → grouping rule (config .limit) (config .budget) ≡ a → Passes a → MeetsEnd
+      done (accepted g) e p = accepted-only (partsOf rule) (madeBy rule) (config .limit) (config .branching) (config .budget) 0 (start rule) g e
       done (refused number) e p = absurd p
 
       to : (n : ℕ) → refusal ≡ n → Passes call → Passed × MeetsEnd
-      to zero e p = (e, done (grouping rule limit budget) refl (rw (call-passed e) at p))
+      to zero e p = (e, done (grouping rule (config .limit) (config .budget)) refl (rw (call-passed e) at p))
       to (suc n) e p = absurd (rw (call-refused n e) at p)
 
   -- No other number refuses a call.
@@ -164,7 +175,7 @@ module _ (rule : Rule) (rows limit budget values : ℕ) (lent : List ℕ) where
   refused-otherwise number c = go refusal refl
     where
       late-number : refusal ≡ 0 → Number number
-      late-number e = elim (only-six-or-seven (partsOf rule) (madeBy rule) limit (rule .branching) budget 0 number (start rule) (sym (call-passed e) ∙ c)) [
+      late-number e = elim (only-six-or-seven (partsOf rule) (madeBy rule) (config .limit) (config .branching) (config .budget) 0 number (start rule) (sym (call-passed e) ∙ c)) [
         | inl z ↦ rw z small
         | inr z ↦ rw z spent
       ]
@@ -186,34 +197,38 @@ module _ (rule : Rule) (rows limit budget values : ℕ) (lent : List ℕ) where
   pub accepted-passed : (g : Groups) → call ≡ accepted g → Passed
   accepted-passed g c = accepted-exactly .0 (rw c tt) .0
 
-  passed-ranged : Passed → Ranged rows (rule .dim) (rule .branching) budget
-  passed-ranged e = ranged rows (rule .dim) limit (rule .branching) budget (passed-exactly .0 e .0)
+  passed-ranged : Passed → Ranged rows dim config
+  passed-ranged e = ranged rows dim config (passed-exactly .0 e .0)
+
+  -- there are as many rows as the call says
+  sized : length (rule .rows) ≡ rows
+  sized = rows-length dim rows values
 
   -- An accepted call lists each row exactly once, in groups of one row to the limit; the ends are their running totals.
-  pub call-listing : length (rule .rows) ≡ rows → (g : Groups) → call ≡ accepted g → Listing limit rows (g .groups)
-  call-listing sized g c =
+  pub call-listing : (g : Groups) → call ≡ accepted g → Listing (config .limit) rows (g .groups)
+  call-listing g c =
       let e = accepted-passed g c in
       let r = passed-ranged e in
-      let a : groupFrom (partsOf rule) (madeBy rule) limit (rule .branching) budget 0 (waits (upTo rows) []) ≡ accepted g = rw sized at (sym (call-passed e) ∙ c) in
-      accepted-listing (partsOf rule) (madeBy rule) limit (rule .branching) 4096 (λ n g k l. parts-kept rule n g (r .some) k l .0) budget rows g (r .few-rows) a
+      let a : groupFrom (partsOf rule) (madeBy rule) (config .limit) (config .branching) (config .budget) 0 (waits (upTo rows) []) ≡ accepted g = rw sized at (sym (call-passed e) ∙ c) in
+      accepted-listing (partsOf rule) (madeBy rule) (config .limit) (config .branching) 4096 (λ n g k l. parts-kept rule n g (r .some) k l .0) (config .budget) rows g (r .few-rows) a
 
   -- Every split of a call that none of 1 to 4 refuses keeps what is promised of a split, whether the call is accepted or not.
-  pub call-splits : Passed → length (rule .rows) ≡ rows → (n : ℕ) (g : List ℕ) → Splits rule limit budget n g → SplitPromise rule n g
-  call-splits e sized n g s =
+  pub call-splits : Passed → (n : ℕ) (g : List ℕ) → Splits rule (config .limit) (config .budget) n g → SplitPromise rule n g
+  call-splits e n g s =
       let r = passed-ranged e in
-      each-split rule limit budget n g (r .some) (rw sized (r .few-rows)) s
+      each-split rule (config .limit) (config .budget) n g (r .some) (rw sized (r .few-rows)) s
 
 -- ---- the budget: calls alike in all else
-module _ (rule : Rule) (rows limit values : ℕ) (lent : List ℕ) where
+module _ (rows dim : ℕ) (config : GroupingConfig) (drawn : List ℕ) (values : List Float) (lent : List ℕ) where
   -- the call with this budget
   abbrev pub under : ℕ → Answer Groups
-  under budget = groupingCall rule rows limit budget values lent
+  under budget = call rows dim (withBudget config budget) drawn values lent
 
   -- another budget in range is refused by none of 1 to 4 either
-  budget-passed : (budget c : ℕ) → c ≤ 8192 → Passed rule rows limit budget values lent → Passed rule rows limit c values lent
+  budget-passed : (budget c : ℕ) → c ≤ 8192 → Passed rows dim (withBudget config budget) drawn values lent → Passed rows dim (withBudget config c) drawn values lent
   budget-passed budget c h e =
-      let t = passed-exactly rule rows limit budget values lent .0 e in
-      passed-exactly rule rows limit c values lent .1 (ranged-budget rows (rule .dim) limit (rule .branching) budget c (t .0) h, t .1, t .2)
+      let t = passed-exactly rows dim (withBudget config budget) drawn values lent .0 e in
+      passed-exactly rows dim (withBudget config c) drawn values lent .1 (ranged-budget rows dim (withBudget config budget) c (t .0) h, t .1, t .2)
 
   -- What other budgets give where this one is accepted.
   pub record Budgets (budget : ℕ) (g : Groups) : Type 0 where
@@ -224,18 +239,20 @@ module _ (rule : Rule) (rows limit values : ℕ) (lent : List ℕ) where
   -- Accepted with s splits: they are within the budget, every budget from s to 8,192 gives the same, and every one below s gives 7.
   pub call-budget : (budget : ℕ) (g : Groups) → under budget ≡ accepted g → Budgets budget g
   call-budget budget g a =
-      let e = accepted-passed rule rows limit budget values lent g a in
-      let r = passed-ranged rule rows limit budget values lent e in
-      let s = budget-accepted (partsOf rule) (madeBy rule) limit (rule .branching) budget 0 (start rule) g (sym (call-passed rule rows limit budget values lent e) ∙ a) in
+      let e = accepted-passed rows dim (withBudget config budget) drawn values lent g a in
+      let r = passed-ranged rows dim (withBudget config budget) drawn values lent e in
+      let rule = rule rows dim config drawn values lent in
+      let s = budget-accepted (partsOf rule) (madeBy rule) (config .limit) (config .branching) budget 0 (start rule) g (sym (call-passed rows dim (withBudget config budget) drawn values lent e) ∙ a) in
       record {
         within = s .0;
-        same = λ c h k. call-passed rule rows limit c values lent (budget-passed budget c k e) ∙ s .1 .0 c h;
-        less = λ c h. call-passed rule rows limit c values lent (budget-passed budget c (omega (arith, s .0)) e) ∙ s .1 .1 c h;
+        same = λ c h k. call-passed rows dim (withBudget config c) drawn values lent (budget-passed budget c k e) ∙ s .1 .0 c h;
+        less = λ c h. call-passed rows dim (withBudget config c) drawn values lent (budget-passed budget c (omega (arith, s .0)) e) ∙ s .1 .1 c h;
       }
 
   -- Refused by 6: by 6 under every larger budget up to 8,192.
   pub call-budget-six : (budget : ℕ) → under budget ≡ refused 6 → (c : ℕ) → budget ≤ c → c ≤ 8192 → under c ≡ refused 6
   call-budget-six budget a c h k =
-      let e = refused-six rule rows limit budget values lent .0 a .0 in
-      call-passed rule rows limit c values lent (budget-passed budget c k e)
-      ∙ budget-six (partsOf rule) (madeBy rule) limit (rule .branching) budget 0 (start rule) (sym (call-passed rule rows limit budget values lent e) ∙ a) c h
+      let e = refused-six rows dim (withBudget config budget) drawn values lent .0 a .0 in
+      let rule = rule rows dim config drawn values lent in
+      call-passed rows dim (withBudget config c) drawn values lent (budget-passed budget c k e)
+      ∙ budget-six (partsOf rule) (madeBy rule) (config .limit) (config .branching) budget 0 (start rule) (sym (call-passed rows dim (withBudget config budget) drawn values lent e) ∙ a) c h

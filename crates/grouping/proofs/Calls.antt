@@ -6,31 +6,31 @@ use Prim.Native.Nat.{ℕ, zero, suc, _*_, _≤_, _<_}
 use native.Mathlib.Omega.{arith}
 use lib.Ieee.{Float}
 use lib.ListN.{length, take, replicate}
-use Rattle.sums.specs.Rows.{Row, rowsFrom}
+use Rattle.sums.specs.Rows.{rowsFrom}
 use Rattle.sums.specs.Sums.{zero32}
 use Rattle.sums.specs.Refusals.{Answer, accepted, refused, unless, onAccepted, padded, cellsOf, blankCell, Cleared}
 use Rattle.sums.proofs.Refusing.{both, within-is, same-is, passed, padded-all, padded-none}
-use Rattle.steps.specs.Inside.{Limits}
-use Rattle.splitting.specs.declared.waiting.GroupingAnswer.{GroupingAnswer}
-use Rattle.splitting.specs.declared.waiting.GroupingAnswer.the-variants.{Accepted, Refused}
-use Rattle.splitting.specs.Groups.{Rule, Groups, grouping, endsFrom, meanOf}
-use Rattle.splitting.specs.Inside.{workOf, Grouped, ruleOf}
-use Rattle.splitting.specs.Answers.{figures, told}
+use Rattle.grouping.specs.declared.config.GroupingConfig.{GroupingConfig}
+use Rattle.grouping.specs.declared.waiting.GroupingAnswer.{GroupingAnswer}
+use Rattle.grouping.specs.declared.waiting.GroupingAnswer.the-variants.{Accepted, Refused}
+use Rattle.grouping.specs.Groups.{ruleOf, Groups, grouping, endsFrom, meanOf}
+use Rattle.grouping.specs.Inside.{Room, Grouped}
+use Rattle.grouping.specs.Answers.{figures, told}
 use Rattle.grouping.specs.Call.{rangesFit, lengthsFit, groupingRefusal, groupingCall, Gives}
-use Rattle.splitting.proofs.Acceptances.{taken}
+use Rattle.grouping.proofs.Acceptances.{taken}
 
 -- ---- the numbers of a call that refusal 1 lets through
-pub record Ranged (rows dim branching budget : ℕ) : Type 0 where
+pub record Ranged (rows dim : ℕ) (config : GroupingConfig) : Type 0 where
   pub few-rows : rows ≤ 4096
   pub some-dim : 0 < dim
   pub small-dim : dim ≤ 64
-  pub some : 0 < branching
-  pub few : branching ≤ 64
-  pub few-splits : budget ≤ 8192
+  pub some : 0 < config .branching
+  pub few : config .branching ≤ 64
+  pub few-splits : config .budget ≤ 8192
 
-pub ranged : (rows dim limit branching budget : ℕ) → rangesFit rows dim limit branching budget ≡ true → Ranged rows dim branching budget
+pub ranged : (rows dim : ℕ) (config : GroupingConfig) → rangesFit rows dim config ≡ true → Ranged rows dim config
 unfolding rangesFit
-ranged rows dim limit branching budget e =
+ranged rows dim config e =
     let d = both _ _ e in
     let c = both _ _ (d .0) in
     let b = both _ _ (c .0) in
@@ -39,35 +39,41 @@ ranged rows dim limit branching budget e =
       few-rows = within-is 0 4096 rows (a .0) .1;
       some-dim = within-is 1 64 dim (a .1) .0;
       small-dim = within-is 1 64 dim (a .1) .1;
-      some = within-is 1 64 branching (c .1) .0;
-      few = within-is 1 64 branching (c .1) .1;
-      few-splits = within-is 0 8192 budget (d .1) .1;
+      some = within-is 1 64 (config .branching) (c .1) .0;
+      few = within-is 1 64 (config .branching) (c .1) .1;
+      few-splits = within-is 0 8192 (config .budget) (d .1) .1;
     }
 
 -- ---- a call that no number refuses has room and draws enough
-pub record Fitting (rows dim branching budget draws values order ends means waiting copied labels gathered training own trainingOwn distances trialLabels places : ℕ) : Type 0 where
+pub record Fitting (rows dim : ℕ) (config : GroupingConfig) (draws values order ends means gathered training : ℕ) : Type 0 where
   pub order-is : order ≡ rows
-  pub mean-cells : means ≡ rows * dim
+  pub room : Room dim (config .branching) order values gathered training
+  pub end-cells : ends ≡ order
+  pub mean-cells : means ≡ order * dim
   pub some-draws : 0 < draws
-  pub few-splits : budget ≤ 8192
-  pub limits : Limits dim branching rows
-  pub room : (ends ∷ waiting ∷ values ∷ copied ∷ labels ∷ gathered ∷ training ∷ own ∷ trainingOwn ∷ distances ∷ trialLabels ∷ places ∷ []) ≡ (rows ∷ rows ∷ workOf dim rows rows)
+  pub few-splits : config .budget < 65536
 
-pub fitting : (rows dim limit branching budget draws values order ends means waiting copied labels gathered training own trainingOwn distances trialLabels places : ℕ)
-    → groupingRefusal rows dim limit branching budget draws values (order ∷ ends ∷ means ∷ waiting ∷ copied ∷ labels ∷ gathered ∷ training ∷ own ∷ trainingOwn ∷ distances ∷ trialLabels ∷ places ∷ []) ≡ 0
-    → Fitting rows dim branching budget draws values order ends means waiting copied labels gathered training own trainingOwn distances trialLabels places
+pub fitting : (rows dim : ℕ) (config : GroupingConfig) (draws values order ends means gathered training : ℕ)
+    → groupingRefusal rows dim config draws values (order ∷ ends ∷ means ∷ gathered ∷ training ∷ []) ≡ 0
+    → Fitting rows dim config draws values order ends means gathered training
 unfolding groupingRefusal lengthsFit
-fitting rows dim limit branching budget draws values order ends means waiting copied labels gathered training own trainingOwn distances trialLabels places e =
+fitting rows dim config draws values order ends means gathered training e =
     let held = passed 0 _ e in
-    let r = ranged rows dim limit branching budget (held .0) in
+    let r = ranged rows dim config (held .0) in
     let same = same-is _ _ (held .1 .0) in
+    let o : order ≡ rows = cc in
     record {
-      order-is = cc;
-      mean-cells = cc;
+      order-is = o;
+      room = rw o (record {
+        limits = ((r .some-dim, r .small-dim), ((r .some, r .few), r .few-rows));
+        value-cells = cc;
+        gathered-cells = cc;
+        training-cells = cc;
+      });
+      end-cells = cc;
+      mean-cells = rw o (cc);
       some-draws = within-is 1 4096 draws (held .1 .1 .1 .0) .0;
-      few-splits = r .few-splits;
-      limits = ((r .some-dim, r .small-dim), ((r .some, r .few), r .few-rows));
-      room = cc;
+      few-splits = omega (arith, r .few-splits);
     }
 
 -- ---- what each answer gives
@@ -102,12 +108,19 @@ module _ (answer : Answer Groups) (dim : ℕ) (values : List Float) (order ends 
         meant = m ∙ sym (padded-none zero32 meanCells);
       }
 
-module _ (draws : List ℕ) (rows dim limit branching : ℕ) (weight : Float) (budget : ℕ) (values : List Float) (lent : List ℕ) where
+-- the same result, its rows, parts and cells counted otherwise
+pub gives-counted : (draws : List ℕ) (dim : ℕ) (values : List Float) (config : GroupingConfig) {r : GroupingAnswer} {order ends : List ℕ} {means : List Float} (n k o o′ e e′ m : ℕ)
+    → n ≡ o → k ≡ config .branching → o′ ≡ o → e′ ≡ e
+    → Gives (grouping (ruleOf draws dim (rowsFrom dim n values) k (config .weight)) (config .limit) (config .budget)) dim (rowsFrom dim o′ values) o′ e′ m r order ends means
+    → Gives (grouping (ruleOf draws dim (rowsFrom dim o values) (config .branching) (config .weight)) (config .limit) (config .budget)) dim (rowsFrom dim o values) o e m r order ends means
+gives-counted draws dim values config n k o o′ e e′ m a b c d g = rw (a, b, c, d) at g
+
+module _ (rows dim : ℕ) (config : GroupingConfig) (draws : List ℕ) (values : List Float) (lent : List ℕ) where
   abbrev called : Answer Groups
-  called = groupingCall (ruleOf draws dim (rowsFrom dim rows values) branching weight) rows limit budget (length values) lent
+  called = groupingCall rows dim config draws values lent
 
   pub gives-refused : (orderCells endCells meanCells number : ℕ) (order ends : List ℕ) (means : List Float)
-      → number ≡ groupingRefusal rows dim limit branching budget (length draws) (length values) lent → (number ≡ 0 → ⊥)
+      → number ≡ groupingRefusal rows dim config (length draws) (length values) lent → (number ≡ 0 → ⊥)
       → order ≡ replicate orderCells blankCell → ends ≡ replicate endCells blankCell → means ≡ replicate meanCells zero32
       → Gives called dim (rowsFrom dim rows values) orderCells endCells meanCells (Refused number) order ends means
   unfolding groupingCall unless onAccepted cellsOf
@@ -119,24 +132,13 @@ module _ (draws : List ℕ) (rows dim limit branching : ℕ) (weight : Float) (b
     meant = m ∙ rw (← e) (sym (padded-none zero32 meanCells));
   }
 
-  pub called-is : groupingRefusal rows dim limit branching budget (length draws) (length values) lent ≡ 0
-      → called ≡ grouping (ruleOf draws dim (rowsFrom dim rows values) branching weight) limit budget
-  unfolding groupingCall unless
-  called-is e = rw e
-
-  pub gives-called : {r : GroupingAnswer} {order ends : List ℕ} {means : List Float} (n k orderCells orderCells′ endCells endCells′ meanCells : ℕ)
-      → groupingRefusal rows dim limit branching budget (length draws) (length values) lent ≡ 0
-      → n ≡ rows → k ≡ branching → orderCells′ ≡ rows → orderCells ≡ rows → endCells′ ≡ endCells
-      → Gives (grouping (ruleOf draws dim (rowsFrom dim n values) k weight) limit budget) dim (rowsFrom dim orderCells′ values) orderCells′ endCells′ meanCells r order ends means
+  pub gives-called : {r : GroupingAnswer} {order ends : List ℕ} {means : List Float} (orderCells endCells meanCells : ℕ)
+      → groupingRefusal rows dim config (length draws) (length values) lent ≡ 0 → orderCells ≡ rows
+      → Gives (grouping (ruleOf draws dim (rowsFrom dim orderCells values) (config .branching) (config .weight)) (config .limit) (config .budget)) dim
+      (rowsFrom dim orderCells values) orderCells endCells meanCells r order ends means
       → Gives called dim (rowsFrom dim rows values) orderCells endCells meanCells r order ends means
-  gives-called n k orderCells orderCells′ endCells endCells′ meanCells e a b c d f g = rw (called-is e, d) (rw (a, b, c, f) at g)
-
--- the same call, its result cells counted before they were filled
-pub gives-at : {dim : ℕ} {read : List Row} {r : GroupingAnswer} {order ends : List ℕ} {means : List Float} (rule : Rule) (rows limit budget values : ℕ) (rest : List ℕ)
-    (o o′ e e′ m m′ : ℕ) → o′ ≡ o → e′ ≡ e → m′ ≡ m
-    → Gives (groupingCall rule rows limit budget values (o′ ∷ e′ ∷ m′ ∷ rest)) dim read o′ e′ m′ r order ends means
-    → Gives (groupingCall rule rows limit budget values (o ∷ e ∷ m ∷ rest)) dim read o e m r order ends means
-gives-at rule rows limit budget values rest o o′ e e′ m m′ a b c g = rw (a, b, c) at g
+  unfolding groupingCall unless
+  gives-called orderCells endCells meanCells e a g = rw (e, a) (rw a at g)
 
 -- cells filled with one value hold nothing else, counted afterwards too
 pub cleared : {A : Type 0} (blank : A) {n : ℕ} {cells : List A} → cells ≡ replicate n blank → length cells ≡ n → Cleared blank cells

@@ -7,20 +7,21 @@ use native.Mathlib.Nat.{mul-le-mul-right}
 use native.Mathlib.Omega.{arith}
 use lib.Ieee.{Float, nan}
 use lib.ListN.{length, getD, take, drop, replicate}
-use Rattle.sums.specs.Rows.{Row, rowAt}
+use Rattle.sums.specs.Rows.{Row, rowsFrom, rowAt}
 use Rattle.sums.specs.Sums.{zero32}
 use Rattle.sums.specs.Refusals.{Answer, accepted, refused, onAccepted, cellsOf, padded, blankCell}
 use Rattle.sums.proofs.Weighs.{countOf}
 use Rattle.sums.proofs.Pairs.{all-at}
 use Rattle.sums.proofs.Refusing.{same-cons, padded-all, padded-none, padded-at, padded-past}
-use Rattle.splitting.specs.declared.waiting.GroupingAnswer.{GroupingAnswer}
-use Rattle.splitting.specs.declared.waiting.GroupingAnswer.the-variants.{Accepted, Refused}
-use Rattle.splitting.specs.Groups.{Rule, Groups, meanOf, endsFrom}
-use Rattle.splitting.specs.Answers.{figures, told}
+use Rattle.grouping.specs.declared.config.GroupingConfig.{GroupingConfig}
+use Rattle.grouping.specs.declared.waiting.GroupingAnswer.{GroupingAnswer}
+use Rattle.grouping.specs.declared.waiting.GroupingAnswer.the-variants.{Accepted, Refused}
+use Rattle.grouping.specs.Groups.{Groups, meanOf, endsFrom}
+use Rattle.grouping.specs.Answers.{figures, told}
 use Rattle.grouping.specs.Call.{lengthsFit, Gives}
-use Rattle.splitting.proofs.Stretches.{flatten-part, flatMap-part, flatMap-length, padded-is, padded-length, ends-length, start-is, end-is}
-use Rattle.splitting.proofs.Averages.{mean-length}
-use Rattle.splitting.proofs.GroupPromises.{Sized, Listing, some-group}
+use Rattle.grouping.proofs.Stretches.{flatten-part, flatMap-part, flatMap-length, padded-is, padded-length, ends-length, start-is, end-is}
+use Rattle.grouping.proofs.Averages.{mean-length}
+use Rattle.grouping.proofs.GroupPromises.{Sized, Listing, some-group}
 use Rattle.grouping.proofs.CallPromises.{call, passed-exactly, accepted-passed, call-listing}
 
 -- group i as a caller reads it: the stretch of the row order from the end before it, 0 for the first, up to its own end
@@ -73,14 +74,18 @@ measured rows dim values o e m work fit =
     let d = same-cons _ _ _ _ (c .1) in
     record { order-cells = b .0; end-cells = c .0; mean-cells = d .0 }
 
--- One call; the rule has its draws, readings, branching and weight, and `work` the lengths of the work slices.
-module _ (rule : Rule) (rows limit budget values orderCells endCells meanCells : ℕ) (work : List ℕ) where
+-- One call, with its settings, its draws, its readings one after the other, and the lengths of what is lent; `work` are those of the work slices.
+module _ (rows dim : ℕ) (config : GroupingConfig) (drawn : List ℕ) (values : List Float) (orderCells endCells meanCells : ℕ) (work : List ℕ) where
   abbrev pub called : Answer Groups
-  called = call rule rows limit budget values (orderCells ∷ endCells ∷ meanCells ∷ work)
+  called = call rows dim config drawn values (orderCells ∷ endCells ∷ meanCells ∷ work)
+
+  -- the readings as rows
+  abbrev pub table : List Row
+  table = rowsFrom dim rows values
 
   -- a result that the call may give
   abbrev pub Result : GroupingAnswer → List ℕ → List ℕ → List Float → Type 0
-  Result r order ends means = Gives called (rule .dim) (rule .rows) orderCells endCells meanCells r order ends means
+  Result r order ends means = Gives called dim table orderCells endCells meanCells r order ends means
 
   -- A call that is told `Refused` is refused by that number, and its result cells are blank.
   pub refused-cells : (number : ℕ) (order ends : List ℕ) (means : List Float) → Result (Refused number) order ends means
@@ -90,7 +95,7 @@ module _ (rule : Rule) (rows limit budget values orderCells endCells meanCells :
     where
       go : (a : Answer Groups) → called ≡ a → told (Refused number) ≡ onAccepted figures a
           → order ≡ cellsOf blankCell orderCells (λ (g : Groups). flatten (g .groups)) a → ends ≡ cellsOf blankCell endCells (λ (g : Groups). endsFrom 0 (g .groups)) a
-          → means ≡ cellsOf zero32 meanCells (λ (g : Groups). flatMap (meanOf (rule .dim) (rule .rows)) (g .groups)) a
+          → means ≡ cellsOf zero32 meanCells (λ (g : Groups). flatMap (meanOf dim table) (g .groups)) a
           → (called ≡ refused number) × Blank orderCells endCells meanCells order ends means
       go (accepted g) e t o n m = let z : _≡_ {A = ℕ} 0 1 = cc in absurd (omega arith)
       go (refused number′) e t o n m =
@@ -105,7 +110,7 @@ module _ (rule : Rule) (rows limit budget values orderCells endCells meanCells :
     done : g .splits ≡ splits
     ordered : order ≡ padded blankCell orderCells (flatten (g .groups))
     ended : ends ≡ padded blankCell endCells (endsFrom 0 (g .groups))
-    meant : means ≡ padded zero32 meanCells (flatMap (meanOf (rule .dim) (rule .rows)) (g .groups))
+    meant : means ≡ padded zero32 meanCells (flatMap (meanOf dim table) (g .groups))
 
   behind : (groups splits : ℕ) (order ends : List ℕ) (means : List Float) → Result (Accepted groups splits) order ends means → Behind groups splits order ends means
   unfolding onAccepted cellsOf
@@ -113,27 +118,27 @@ module _ (rule : Rule) (rows limit budget values orderCells endCells meanCells :
     where
       go : (a : Answer Groups) → called ≡ a → told (Accepted groups splits) ≡ onAccepted figures a
           → order ≡ cellsOf blankCell orderCells (λ (g : Groups). flatten (g .groups)) a → ends ≡ cellsOf blankCell endCells (λ (g : Groups). endsFrom 0 (g .groups)) a
-          → means ≡ cellsOf zero32 meanCells (λ (g : Groups). flatMap (meanOf (rule .dim) (rule .rows)) (g .groups)) a
+          → means ≡ cellsOf zero32 meanCells (λ (g : Groups). flatMap (meanOf dim table) (g .groups)) a
           → Behind groups splits order ends means
       go (accepted g) e t o n m =
           let z : _≡_ {A = ℕ × ℕ} (figures g) (groups, splits) = cc in
           record { g = g; is = e; counted = ap (λ (f : ℕ × ℕ). f .0) z; done = ap (λ (f : ℕ × ℕ). f .1) z; ordered = o; ended = n; meant = m }
       go (refused number) e t o n m = let z : _≡_ {A = ℕ} 0 1 = cc in absurd (omega arith)
 
-  module _ (rows-told : length (rule .rows) ≡ rows) {groups splits : ℕ} {order ends : List ℕ} {means : List Float} (b : Behind groups splits order ends means) where
+  module _ {groups splits : ℕ} {order ends : List ℕ} {means : List Float} (b : Behind groups splits order ends means) where
     abbrev gs : List (List ℕ)
     gs = b .g .groups
 
     abbrev lent : List ℕ
     lent = orderCells ∷ endCells ∷ meanCells ∷ work
 
-    fits : Measured rows (rule .dim) orderCells endCells meanCells
+    fits : Measured rows dim orderCells endCells meanCells
     fits =
-        let e = accepted-passed rule rows limit budget values lent (b .g) (b .is) in
-        measured rows (rule .dim) values orderCells endCells meanCells work (passed-exactly rule rows limit budget values lent .0 e .1)
+        let e = accepted-passed rows dim config drawn values lent (b .g) (b .is) in
+        measured rows dim (length values) orderCells endCells meanCells work (passed-exactly rows dim config drawn values lent .0 e .1)
 
-    listing : Listing limit rows gs
-    listing = call-listing rule rows limit budget values lent rows-told (b .g) (b .is)
+    listing : Listing (config .limit) rows gs
+    listing = call-listing rows dim config drawn values lent (b .g) (b .is)
 
     order-is : order ≡ flatten gs
     order-is = b .ordered ∙ padded-all blankCell orderCells (flatten gs) (listing .all ∙ sym (fits .order-cells))
@@ -155,11 +160,11 @@ module _ (rule : Rule) (rows limit budget values orderCells endCells meanCells :
         let z : getD ends i 0 - getD (0 ∷ ends) i 0 ≡ length (getD gs i []) = omega (arith, size-at i h) in
         ap (λ (l : List ℕ). groupAt l ends i) order-is ∙ rw (z, start-at i h) (flatten-part gs i (omega (arith, b .counted)))
 
-    ends-cells : Cells limit rows groups order ends
+    ends-cells : Cells (config .limit) rows groups order ends
     ends-cells = record {
       once = λ x h. rw order-is (listing .once x h);
       all = ap length order-is ∙ listing .all;
-      sized = λ i h. rw (group-is i h) (all-at (Sized limit) gs [] (listing .sized) i (omega (arith, b .counted)));
+      sized = λ i h. rw (group-is i h) (all-at (Sized (config .limit)) gs [] (listing .sized) i (omega (arith, b .counted)));
       total = λ i h. rw (group-is i h) (size-at i h);
       last = λ h.
           let s : 0 < length gs = some-group gs (omega (arith, listing .all)) in
@@ -172,17 +177,16 @@ module _ (rule : Rule) (rows limit budget values orderCells endCells meanCells :
       least = λ h. omega (arith, listing .least h, b .counted);
     }
 
-    mean-cells : Means (rule .dim) rows groups (rule .rows) order ends means
+    mean-cells : Means dim rows groups table order ends means
     mean-cells =
-        let dim = rule .dim in
-        let f : List ℕ → Row = meanOf dim (rule .rows) in
-        let n : length (flatMap f gs) ≡ groups * dim = flatMap-length f dim (mean-length dim (rule .rows)) gs ∙ rw (b .counted) in
+        let f : List ℕ → Row = meanOf dim table in
+        let n : length (flatMap f gs) ≡ groups * dim = flatMap-length f dim (mean-length dim table) gs ∙ rw (b .counted) in
         let room : length (flatMap f gs) ≤ meanCells = rw (n, fits .mean-cells) (mul-le-mul-right dim (omega (arith, listing .most, b .counted))) in
         record {
           mean = λ i h.
               let r = meanCells - length (flatMap f gs) in
               let p : means ≡ flatMap f gs ++ replicate r zero32 = b .meant ∙ padded-is zero32 meanCells r (flatMap f gs) (omega (arith, room)) in
-              rw (p, group-is i h) (flatMap-part f dim (mean-length dim (rule .rows)) gs (replicate r zero32) i [] (omega (arith, b .counted)));
+              rw (p, group-is i h) (flatMap-part f dim (mean-length dim table) gs (replicate r zero32) i [] (omega (arith, b .counted)));
           cells = ap length (b .meant) ∙ (padded-length zero32 meanCells (flatMap f gs) ∙ fits .mean-cells);
           blank = λ i h k.
               ap (λ (l : List Float). getD l i nan) (b .meant)
@@ -190,14 +194,14 @@ module _ (rule : Rule) (rows limit budget values orderCells endCells meanCells :
         }
 
   -- A call that is told `Accepted` finds in its row order and group ends each row once, in groups of one row to the limit, and their ends.
-  pub call-cells : length (rule .rows) ≡ rows → (groups splits : ℕ) (order ends : List ℕ) (means : List Float) → Result (Accepted groups splits) order ends means
-      → Cells limit rows groups order ends
-  call-cells told-rows groups splits order ends means given = ends-cells told-rows (behind groups splits order ends means given)
+  pub call-cells : (groups splits : ℕ) (order ends : List ℕ) (means : List Float) → Result (Accepted groups splits) order ends means
+      → Cells (config .limit) rows groups order ends
+  call-cells groups splits order ends means given = ends-cells (behind groups splits order ends means given)
 
   -- And in its means those of these groups.
-  pub call-means : length (rule .rows) ≡ rows → (groups splits : ℕ) (order ends : List ℕ) (means : List Float) → Result (Accepted groups splits) order ends means
-      → Means (rule .dim) rows groups (rule .rows) order ends means
-  call-means told-rows groups splits order ends means given = mean-cells told-rows (behind groups splits order ends means given)
+  pub call-means : (groups splits : ℕ) (order ends : List ℕ) (means : List Float) → Result (Accepted groups splits) order ends means
+      → Means dim rows groups table order ends means
+  call-means groups splits order ends means given = mean-cells (behind groups splits order ends means given)
 
 -- ---- the answer and every cell follow from the call alone
 told-once : (r r′ : GroupingAnswer) → told r ≡ told r′ → r ≡ r′

@@ -1,4 +1,24 @@
--- The laws that the call leans on, and what grouping promises.
+-- The laws that the functions of this crate lean on, and what balancing, a split, the waiting groups and the call promise.
+pub mod Lists
+pub mod Layouts
+pub mod Gathers
+pub mod Rotates
+pub mod Seeks
+pub mod Moves
+pub mod Nearest
+pub mod Fair
+pub mod Allowances
+pub mod Rounds
+pub mod BalancePromises
+pub mod Stretches
+pub mod Stacks
+pub mod Averages
+pub mod Steps
+pub mod Splits
+pub mod GroupPromises
+pub mod SplitPromises
+pub mod States
+pub mod Acceptances
 pub mod Calls
 pub mod CallPromises
 pub mod CellPromises

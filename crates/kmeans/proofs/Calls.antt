@@ -1,7 +1,7 @@
 -- A k-means call: what its tests tell of its numbers, and what each answer gives. Assumes nothing.
 use mathlib.Core.Path.{_≡_, refl, sym, ap, _∙_}
 use mathlib.Core.Bool.{true}
-use mathlib.Core.List.{List, _∷_}
+use mathlib.Core.List.{List, [], _∷_}
 use Prim.Native.Nat.{ℕ, zero, suc, _*_, _≤_, _<_}
 use native.Mathlib.Nat.{zero-mod}
 use borrow.Author.Tests.{leb-true}
@@ -13,15 +13,14 @@ use Rattle.sums.specs.Rows.{rowsFrom}
 use Rattle.sums.specs.Sums.{zero32}
 use Rattle.sums.specs.Refusals.{unless, onAccepted, cellsOf, blankCell}
 use Rattle.sums.proofs.Rows.{rows-flat}
-use Rattle.sums.proofs.Refusing.{both, within-is, same-cons, same-is, passed, padded-all, padded-none}
+use Rattle.sums.proofs.Refusing.{both, within-is, same-cons, passed, padded-all, padded-none}
 use Rattle.kmeans.specs.declared.config.KMeansConfig.{KMeansConfig}
 use Rattle.kmeans.specs.declared.restart.Kept.{Kept}
 use Rattle.kmeans.specs.declared.call.KMeansAnswer.the-variants.{Accepted, Refused}
 use Rattle.kmeans.specs.KMeans.{kmeans}
-use Rattle.steps.specs.Inside.{Limits}
-use Rattle.kmeans.specs.Inside.{heldOf}
+use Rattle.kmeans.specs.Inside.{Limits, heldOf}
+use Rattle.kmeans.specs.Call.{rangesFit, lengthsFit, kmeansRefusal, kmeansCall, Gives}
 use Rattle.kmeans.proofs.Restarts.{Ran}
-use Rattle.kmeans.specs.Call.{lengthsOf, rangesFit, lengthsFit, kmeansRefusal, kmeansCall, Gives}
 
 -- ---- the numbers of a call that refusal 1 lets through
 pub record Ranged (rows dim k : ℕ) (config : KMeansConfig) : Type 0 where
@@ -53,27 +52,27 @@ ranged rows dim k config e =
     }
 
 -- ---- an accepted call has room, rows and draws enough
-pub record Fitting (rows dim k : ℕ) (config : KMeansConfig) (draws values labels centroids : ℕ) (work : List ℕ) : Type 0 where
+pub record Fitting (rows dim k : ℕ) (config : KMeansConfig) (draws values labels centroids training : ℕ) : Type 0 where
   pub labels-are : labels ≡ rows
-  pub centroid-cells : centroids ≡ k * dim
+  pub limits : Limits dim k labels × ((k ≤ labels) × ((config .«max_points_per_centroid» ≤ 4096) × (0 < config .«decode_block_size»)))
+  pub cells : (values ≡ labels * dim) × ((centroids ≡ k * dim) × (training ≡ labels * dim))
   pub some-draws : 0 < draws
-  pub space : (Limits dim k labels × ((k ≤ labels) × ((config .«max_points_per_centroid» ≤ 4096) × (0 < config .«decode_block_size»)))) × ((values ∷ labels ∷ centroids ∷ work) ≡ (labels * dim ∷ lengthsOf labels dim k))
 
-pub fitting : (rows dim k : ℕ) (config : KMeansConfig) (draws values labels centroids : ℕ) (work : List ℕ)
-    → kmeansRefusal rows dim k config draws values (labels ∷ centroids ∷ work) ≡ 0 → Fitting rows dim k config draws values labels centroids work
+pub fitting : (rows dim k : ℕ) (config : KMeansConfig) (draws values labels centroids training : ℕ)
+    → kmeansRefusal rows dim k config draws values (labels ∷ centroids ∷ training ∷ []) ≡ 0 → Fitting rows dim k config draws values labels centroids training
 unfolding kmeansRefusal lengthsFit
-fitting rows dim k config draws values labels centroids work e =
+fitting rows dim k config draws values labels centroids training e =
     let held = passed 0 _ e in
     let r = ranged rows dim k config (held .0) in
     let v = same-cons _ _ _ _ (held .1 .0) in
     let l = same-cons _ _ _ _ (v .1) in
     let c = same-cons _ _ _ _ (l .1) in
-    let same = same-is _ _ (held .1 .0) in
+    let t = same-cons _ _ _ _ (c .1) in
     record {
       labels-are = l .0;
-      centroid-cells = c .0;
+      limits = rw (l .0) (((r .some-dim, r .small-dim), ((r .some, r .few), r .few-rows)), (leb-true k rows (held .1 .1 .0), (r .few-points, r .some-block)));
+      cells = rw (l .0) (v .0, (c .0, t .0));
       some-draws = within-is 1 4096 draws (held .1 .1 .1 .0) .0;
-      space = rw (l .0) ((((r .some-dim, r .small-dim), ((r .some, r .few), r .few-rows)), (leb-true k rows (held .1 .1 .0), (r .few-points, r .some-block))), rw (l .0) at same);
     }
 
 -- ---- what each answer gives
@@ -82,10 +81,10 @@ fitting rows dim k config draws values labels centroids work e =
 start : (draws : List ℕ) (cursor : Cursor) → cursor .at ≡ 0 → cursor ≡ cursorAt draws 0
 start draws cursor e = let f : ℕ → Cursor = λ n. record { at = n } in ap f (e ∙ sym (zero-mod (length draws)))
 
-module _ (rows dim k : ℕ) (config : KMeansConfig) (draws : List ℕ) (values : List Float) (labelCells centroidCells : ℕ) (work : List ℕ) where
-  pub gives-refused : (number : ℕ) (labels : List ℕ) (centroids : List Float) → number ≡ kmeansRefusal rows dim k config (length draws) (length values) (labelCells ∷ centroidCells ∷ work) → (number ≡ 0 → ⊥)
+module _ (rows dim k : ℕ) (config : KMeansConfig) (draws : List ℕ) (values : List Float) (labelCells centroidCells trainingCells : ℕ) where
+  pub gives-refused : (number : ℕ) (labels : List ℕ) (centroids : List Float) → number ≡ kmeansRefusal rows dim k config (length draws) (length values) (labelCells ∷ centroidCells ∷ trainingCells ∷ []) → (number ≡ 0 → ⊥)
       → labels ≡ replicate labelCells blankCell → centroids ≡ replicate centroidCells zero32
-      → Gives (kmeansCall rows dim k config draws values (labelCells ∷ centroidCells ∷ work)) labelCells centroidCells (Refused number) labels centroids
+      → Gives (kmeansCall rows dim k config draws values (labelCells ∷ centroidCells ∷ trainingCells ∷ [])) labelCells centroidCells (Refused number) labels centroids
   unfolding kmeansCall unless onAccepted cellsOf
   gives-refused zero labels centroids e h l c = absurd (h refl)
   gives-refused (suc number) labels centroids e h l c = record {
@@ -94,16 +93,16 @@ module _ (rows dim k : ℕ) (config : KMeansConfig) (draws : List ℕ) (values :
     centred = c ∙ rw (← e) (sym (padded-none zero32 centroidCells));
   }
 
-  pub gives-run : (cursor : Cursor) (r : Kept) (labels : List ℕ) (centroids : List Float) → kmeansRefusal rows dim k config (length draws) (length values) (labelCells ∷ centroidCells ∷ work) ≡ 0
+  pub gives-run : (cursor : Cursor) (r : Kept) (labels : List ℕ) (centroids : List Float) → kmeansRefusal rows dim k config (length draws) (length values) (labelCells ∷ centroidCells ∷ trainingCells ∷ []) ≡ 0
       → cursor .at ≡ 0 → length labels ≡ labelCells → length centroids ≡ centroidCells
       → Ran draws config k dim (rowsFrom dim labelCells values) cursor r labels (rowsFrom dim k centroids)
-      → Gives (kmeansCall rows dim k config draws values (labelCells ∷ centroidCells ∷ work)) labelCells centroidCells (Accepted (r .objective) (r .restart)) labels centroids
+      → Gives (kmeansCall rows dim k config draws values (labelCells ∷ centroidCells ∷ trainingCells ∷ [])) labelCells centroidCells (Accepted (r .objective) (r .restart)) labels centroids
   unfolding kmeansCall unless onAccepted cellsOf
   gives-run cursor r labels centroids e s l c g =
-      let f = fitting rows dim k config (length draws) (length values) labelCells centroidCells work e in
+      let f = fitting rows dim k config (length draws) (length values) labelCells centroidCells trainingCells e in
       let x : heldOf labels (rowsFrom dim k centroids) r ≡ kmeans draws 0 config k dim (rowsFrom dim rows values) .result = rw (f .labels-are) at (g .steps 0 (start draws cursor s) .0) in
       record {
         result = rw (e, ← x);
         labelled = rw (e, ← x) (sym (padded-all blankCell labelCells labels l));
-        centred = rw (e, ← x, rows-flat dim k centroids (c ∙ f .centroid-cells)) (sym (padded-all zero32 centroidCells centroids c));
+        centred = rw (e, ← x, rows-flat dim k centroids (c ∙ f .cells .1 .0)) (sym (padded-all zero32 centroidCells centroids c));
       }

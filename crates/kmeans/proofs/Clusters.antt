@@ -11,11 +11,12 @@ use Rattle.sums.specs.Cells.{Below}
 use Rattle.sums.specs.Draws.{pick}
 use Rattle.labels.proofs.Promises.{label-count, label-below}
 use Rattle.kmeans.specs.declared.config.KMeansConfig.{KMeansConfig}
-use Rattle.steps.specs.Steps.{target, trainingIf}
-use Rattle.kmeans.specs.KMeans.{Result, Run, firstFit, resultOf, keepBetter, fitOf, restartsFrom, restartsOf, kmeans}
+use Rattle.kmeans.specs.declared.config.Plan.{Plan}
+use Rattle.kmeans.specs.Steps.{target, trainingIf}
+use Rattle.kmeans.specs.KMeans.{Result, Run, planOf, firstFit, resultOf, keepBetter, fitOf, restartsFrom, restartsOf, kmeans}
 use Rattle.sums.proofs.Picks.{pick-length}
-use Rattle.steps.proofs.Sizes.{iterate-length}
-use Rattle.steps.proofs.Selects.{training-length, target-enough, target-within}
+use Rattle.kmeans.proofs.Sizes.{iterate-length}
+use Rattle.kmeans.proofs.Selects.{training-length, target-enough, target-within}
 
 first-length : (draws : List ℕ) (k : ℕ) (training : List Row) (n : ℕ) → k ≤ length training → length (firstFit draws k training n .centroids) ≡ k
 unfolding firstFit
@@ -43,19 +44,19 @@ kept k rows new old p q = go (lt (new .objective) (old .objective))
     go true = p
     go false = q
 
-module _ (draws : List ℕ) (config : KMeansConfig) (k dim : ℕ) (training rows : List Row) (h : k ≤ length training) where
-  fit-length : (n : ℕ) → length (fitOf draws config k dim training rows n .centroids) ≡ k
+module _ (draws : List ℕ) (plan : Plan) (training rows : List Row) (h : plan .k ≤ length training) where
+  fit-length : (n : ℕ) → length (fitOf draws plan training n .centroids) ≡ plan .k
   unfolding fitOf
-  fit-length n = iterate-length draws k dim _ training (config .niter) _ (first-length draws k training n h)
+  fit-length n = iterate-length draws (plan .k) (plan .dim) _ training (plan .iterations) _ (first-length draws (plan .k) training n h)
 
-  from-clustered : (left number : ℕ) (run : Run) → Clustered k rows (run .result) → Clustered k rows (restartsFrom draws config k dim training rows left number run .result)
+  from-clustered : (left number : ℕ) (run : Run) → Clustered (plan .k) rows (run .result) → Clustered (plan .k) rows (restartsFrom draws plan training rows left number run .result)
   unfolding restartsFrom
   from-clustered zero number run c = c
-  from-clustered (suc left) number run c = from-clustered left (suc number) _ (kept k rows _ _ (clustered k rows number _ (fit-length (run .made))) c)
+  from-clustered (suc left) number run c = from-clustered left (suc number) _ (kept (plan .k) rows _ _ (clustered (plan .k) rows number _ (fit-length (run .made))) c)
 
-  of-clustered : (others n : ℕ) → Clustered k rows (restartsOf draws config k dim training rows others n .result)
+  of-clustered : (others n : ℕ) → Clustered (plan .k) rows (restartsOf draws plan training rows others n .result)
   unfolding restartsOf
-  of-clustered others n = from-clustered others 1 _ (clustered k rows 0 _ (fit-length n))
+  of-clustered others n = from-clustered others 1 _ (clustered (plan .k) rows 0 _ (fit-length n))
 
 pub kmeans-clustered : (draws : List ℕ) (n : ℕ) (config : KMeansConfig) (k dim : ℕ) (rows : List Row) → k ≤ length rows → Clustered k rows (kmeans draws n config k dim rows .result)
 unfolding kmeans
@@ -64,4 +65,4 @@ kmeans-clustered draws n config k dim rows h =
     let numbers = trainingIf (eqb aim (length rows)) draws n aim (length rows) in
     let long : length (rowsAt rows numbers) ≡ aim
     = length-map numbers _ ∙ training-length draws n aim (length rows) (target-within k (config .«max_points_per_centroid») (length rows) h) in
-    of-clustered draws config k dim (rowsAt rows numbers) rows (rw long (target-enough k (config .«max_points_per_centroid») (length rows))) (config .nredo - 1) _
+    of-clustered draws (planOf config k dim) (rowsAt rows numbers) rows (rw long (target-enough k (config .«max_points_per_centroid») (length rows))) (config .nredo - 1) _

@@ -14,9 +14,9 @@ use Rattle.kmeans.specs.declared.call.KMeansAnswer.{KMeansAnswer}
 use Rattle.kmeans.specs.declared.call.KMeansAnswer.the-variants.{Accepted, Refused}
 use Rattle.kmeans.specs.KMeans.{Result, Run, kmeans}
 
--- the lengths of what is lent: the labels and the centroids; then the work slices, in docs/BUFFERS.md's order
+-- the lengths of what is lent: the labels and the centroids; then the work slice, in docs/BUFFERS.md's order
 abbrev pub lengthsOf : ℕ → ℕ → ℕ → List ℕ
-lengthsOf rows dim k = rows ∷ k * dim ∷ rows * dim ∷ rows ∷ rows ∷ rows ∷ rows ∷ rows ∷ []
+lengthsOf rows dim k = rows ∷ k * dim ∷ rows * dim ∷ []
 
 unfoldable pub rangesFit : ℕ → ℕ → ℕ → KMeansConfig → Bool
 rangesFit rows dim k config =

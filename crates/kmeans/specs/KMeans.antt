@@ -9,8 +9,9 @@ use Rattle.sums.specs.Rows.{Row, rowsAt}
 use Rattle.sums.specs.Sums.{zero32}
 use Rattle.sums.specs.Draws.{pick}
 use Rattle.labels.specs.Label.{nearests, labelsOf}
-use Rattle.steps.specs.Steps.{target, trainingIf, Fit, iterate, objectiveFrom}
+use Rattle.kmeans.specs.Steps.{target, trainingIf, Fit, iterate, objectiveFrom}
 use Rattle.kmeans.specs.declared.config.KMeansConfig.{KMeansConfig}
+use Rattle.kmeans.specs.declared.config.Plan.{Plan}
 
 -- the source's defaults, and grouping's (01, 'Ranges and refusal numbers')
 abbrev pub usual : KMeansConfig
@@ -21,15 +22,20 @@ forGrouping = record { niter = 100; nredo = 1; «max_points_per_centroid» = 256
 
 -- ---- step 2: one restart
 
-pub record Result : Type 0 where
-  pub labels : List ℕ
-  pub centroids : List Row
-  pub objective : Float
-  pub restart : ℕ
+abbrev pub Result : Type 0
+Result = record { labels : List ℕ; centroids : List Row; objective : Float; restart : ℕ }
 
 -- k training positions picked as centroids, in picked order
 unfoldable pub firstFit : List ℕ → ℕ → List Row → ℕ → Fit
 firstFit draws k training n = record { centroids = rowsAt training (pick draws n k (length training)); made = n + k }
+
+-- what the steps know of the settings
+abbrev pub planOf : KMeansConfig → ℕ → ℕ → Plan
+planOf config k dim = record { dim = dim; k = k; iterations = config .niter; block = config .«decode_block_size» }
+
+-- one restart after n draws: first centroids, and all the iterations
+unfoldable pub fitOf : List ℕ → Plan → List Row → ℕ → Fit
+fitOf draws plan training n = iterate draws (plan .k) (plan .dim) (plan .block) training (plan .iterations) (firstFit draws (plan .k) training n)
 
 -- all rows labelled by the centroids of the restart given, and the objective
 unfoldable pub resultOf : List Row → ℕ → List Row → Result
@@ -39,30 +45,26 @@ resultOf rows number centroids =
 
 -- ---- step 5: the restart kept, and the draws made
 
-pub record Run : Type 0 where
-  pub result : Result
-  pub made : ℕ
+abbrev pub Run : Type 0
+Run = record { result : Result; made : ℕ }
 
 -- the earlier one stays until a later one has a strictly smaller objective
 unfoldable pub keepBetter : Result → Result → Result
 keepBetter new old = cond (lt (new .objective) (old .objective)) new old
 
-module _ (draws : List ℕ) (config : KMeansConfig) (k dim : ℕ) (training rows : List Row) where
-  unfoldable pub fitOf : ℕ → Fit
-  fitOf n = iterate draws k dim (config .«decode_block_size») training (config .niter) (firstFit draws k training n)
-
+module _ (draws : List ℕ) (plan : Plan) (training rows : List Row) where
   -- the restarts left, the next of which has the number given
   unfoldable pub restartsFrom : ℕ → ℕ → Run → Run
   restartsFrom zero number run = run
   restartsFrom (suc left) number run =
-      let fit = fitOf (run .made) in
+      let fit = fitOf draws plan training (run .made) in
       restartsFrom left (suc number)
       (record { result = keepBetter (resultOf rows number (fit .centroids)) (run .result); made = fit .made })
 
   -- the first restart, after n draws, and then the others
   unfoldable pub restartsOf : ℕ → ℕ → Run
   restartsOf others n =
-      let fit = fitOf n in
+      let fit = fitOf draws plan training n in
       restartsFrom others 1 (record { result = resultOf rows 0 (fit .centroids); made = fit .made })
 
 -- K-means after n draws of the call, of rows of dim values, all five steps
@@ -71,4 +73,4 @@ kmeans draws n config k dim rows =
     let aim = target k (config .«max_points_per_centroid») (length rows) in
     let all = eqb aim (length rows) in
     let training = rowsAt rows (trainingIf all draws n aim (length rows)) in
-    restartsOf draws config k dim training rows (config .nredo - 1) (n + cond all 0 aim)
+    restartsOf draws (planOf config k dim) training rows (config .nredo - 1) (n + cond all 0 aim)

@@ -1,4 +1,4 @@
-// The settings of a k-means run.
+// The settings of a k-means run, and what its steps know of them.
 ghost use mathlib.Core.Path.{_≡_};
 ghost use Rattle.kmeans.specs.KMeans.{usual, forGrouping};
 
@@ -36,11 +36,16 @@ impl KMeansConfig {
     pub fn for_grouping() -> Self
         ensures { λ r. ⌜ r ≡ forGrouping ⌝ }
     {
-        KMeansConfig {
-            niter: KMeansConfig::GROUPING_ITERATIONS,
-            nredo: KMeansConfig::RESTARTS,
-            max_points_per_centroid: KMeansConfig::MAX_POINTS_PER_CENTROID,
-            decode_block_size: KMeansConfig::DECODE_BLOCK_SIZE,
-        }
+        let mut config = KMeansConfig::new();
+        config.niter = KMeansConfig::GROUPING_ITERATIONS;
+        config
     }
+}
+
+// What every step of a run knows: the values of a row, the clusters, the iterations to be made, and the rows of a block.
+pub struct Plan {
+    pub dim: usize,
+    pub k: usize,
+    pub iterations: usize,
+    pub block: usize,
 }

@@ -1,26 +1,22 @@
 // Restarts, and the one that is kept (the source's run_kmeans_flat).
 ghost use mathlib.Core.Path.{_≡_};
-ghost use mathlib.Core.List.{[], _∷_};
-ghost use Prim.Native.Nat.{_+_, _-_, _*_, _≤_, _<_};
+ghost use Prim.Native.Nat.{_-_, _*_, _≤_, _<_};
 ghost use lib.ListN.{length};
 ghost use Rattle.sums.specs.Rows.{rowsFrom};
-ghost use Rattle.sums.specs.Sums.{zero32};
 ghost use Rattle.sums.specs.Draws.{Drawn};
-ghost use Rattle.labels.specs.Label.{nearests, labelsOf};
-ghost use Rattle.labels.specs.Inside.{normsOf, Assignable};
-ghost use Rattle.steps.specs.Steps.{iterate, objectiveFrom};
-ghost use Rattle.kmeans.specs.KMeans.{firstFit, resultOf, keepBetter, restartsOf, kmeans};
-ghost use Rattle.kmeans.specs.Call.{lengthsOf};
-ghost use Rattle.steps.specs.Inside.{Limits, roomOf};
-ghost use Rattle.kmeans.specs.Inside.{spacesOf, heldOf};
+ghost use Rattle.kmeans.specs.KMeans.{fitOf, resultOf, keepBetter, restartsOf, kmeans};
+ghost use Rattle.kmeans.specs.Inside.{Limits, Planned, Trainable, Restartable, trainingOf, centroidsOf, Restarted, Finished, heldOf};
 use crate::config::KMeansConfig;
+use crate::config::Plan;
+use crate::iterations;
+use crate::objective;
+use crate::training;
 use labels::nearest;
-use steps::alike;
-use steps::objective;
-use steps::training;
 use sums::cells;
 use sums::draws;
 use sums::draws::Cursor;
+use sums::numbers;
+use sums::rooms;
 
 // The restart kept so far, and the place in the draws.
 pub struct Kept {
@@ -31,100 +27,70 @@ pub struct Kept {
 
 // One restart: k training positions picked as centroids, in picked order, and the iterations.
 fn run_restart(
-    iterations: usize,
+    plan: Plan,
     training: &[f32],
-    own: &[f32],
-    dim: usize,
-    block: usize,
-    k: usize,
+    norms: &[f32],
     draws: &[u32],
     cursor: Cursor,
-    places: &mut [u16],
     centroids: &mut [f32],
-    labels: &mut [u16],
-    distances: &mut [f32],
 ) -> Cursor
-    requires { ⌜ (Limits dim k (length (now labels)) × ((0 < length (now labels)) × (0 < block))) × ((length (now training) ∷ length (now own) ∷ length (now centroids) ∷ length (now distances) ∷ []) ≡ roomOf dim (length (now labels)) k) ⌝ }
-    requires { ⌜ now own ≡ normsOf (rowsFrom dim (length (now labels)) (now training)) ⌝ }
-    requires { ⌜ (cursor .at < length (now draws)) × ((length (now places) ≡ length (now labels)) × (k ≤ length (now labels))) ⌝ }
-    ensures { λ r. ⌜ Drawn (now (draws .entry)) cursor r (rowsFrom dim k (now (centroids .exit))) (λ n. (iterate (now (draws .entry)) k dim block (rowsFrom dim (length (now (labels .entry))) (now (training .entry))) iterations (firstFit (now (draws .entry)) k (rowsFrom dim (length (now (labels .entry))) (now (training .entry))) n)) .centroids) (λ n. (iterate (now (draws .entry)) k dim block (rowsFrom dim (length (now (labels .entry))) (now (training .entry))) iterations (firstFit (now (draws .entry)) k (rowsFrom dim (length (now (labels .entry))) (now (training .entry))) n)) .made) ⌝ }
+    requires { ⌜ Trainable plan (now training) (now norms) (length (now centroids)) × (plan .k ≤ length (now norms)) ⌝ }
+    requires { ⌜ cursor .at < length (now draws) ⌝ }
+    ensures { λ r. ⌜ Restarted (now (draws .entry)) plan (trainingOf plan (now (training .entry)) (now (norms .entry))) cursor
+        (centroidsOf plan (now (centroids .exit))) r ⌝ }
 {
-    let rows = places.len();
-    let next = draws::pick(draws, cursor, places, k);
-    training::gather_rows(training, dim, rows, &places[..k], centroids);
-    alike::run_lloyd_iterations(
-        iterations,
-        training,
-        own,
-        dim,
-        block,
-        k,
-        draws,
-        next,
-        centroids,
-        labels,
-        distances,
-    )
+    let k = plan.k;
+    let rows = norms.len();
+    let mut places = rooms::cell_room();
+    let next = draws::pick(draws, cursor, &mut places[..rows], k);
+    training::gather_rows(training, plan.dim, rows, &places[..k], centroids);
+    iterations::run_lloyd_iterations(plan, training, norms, draws, next, centroids)
 }
 
 // All rows labelled by the centroids, and the objective.
-fn finish_restart(
-    values: &[f32],
-    own: &[f32],
-    dim: usize,
-    centroids: &[f32],
-    k: usize,
-    labels: &mut [u16],
-    distances: &mut [f32],
-) -> f64
-    requires { ⌜ Assignable dim k (now values) (now own) (now centroids) (length (now labels)) (length (now distances)) × (0 < k) ⌝ }
-    ensures { λ _. ⌜ now (labels .exit) ≡ labelsOf (nearests (rowsFrom dim k (now (centroids .entry))) (rowsFrom dim (length (now (labels .entry))) (now (values .entry)))) ⌝ }
-    ensures { λ r. ⌜ r ≡ objectiveFrom zero32 (rowsFrom dim k (now (centroids .entry))) (labelsOf (nearests (rowsFrom dim k (now (centroids .entry))) (rowsFrom dim (length (now (labels .entry))) (now (values .entry))))) (rowsFrom dim (length (now (labels .entry))) (now (values .entry))) ⌝ }
+fn finish_restart(plan: Plan, values: &[f32], centroids: &[f32], labels: &mut [u16]) -> f64
+    requires { ⌜ Planned plan × ((length (now values) ≡ length (now labels) * plan .dim)
+        × ((length (now labels) ≤ 4096) × (length (now centroids) ≡ plan .k * plan .dim))) ⌝ }
+    ensures { λ r. ⌜ Finished (rowsFrom (plan .dim) (length (now (labels .entry))) (now (values .entry)))
+        (centroidsOf plan (now (centroids .entry))) (now (labels .exit)) r ⌝ }
 {
-    nearest::assign_rows(values, own, dim, centroids, k, labels, distances);
-    objective::compute_objective(values, dim, centroids, k, labels)
+    let rows = labels.len();
+    let mut norms = rooms::row_room();
+    let mut distances = rooms::row_room();
+    nearest::compute_norms(values, plan.dim, &mut norms[..rows]);
+    nearest::assign_rows(
+        values,
+        &norms[..rows],
+        plan.dim,
+        centroids,
+        plan.k,
+        labels,
+        &mut distances[..rows],
+    );
+    objective::compute_objective(values, plan.dim, centroids, plan.k, labels)
 }
 
 // The first restart: it is kept so far.
 fn first_restart(
-    iterations: usize,
-    block: usize,
-    dim: usize,
-    k: usize,
+    plan: Plan,
     values: &[f32],
-    own: &[f32],
     training: &[f32],
-    training_own: &[f32],
+    norms: &[f32],
     draws: &[u32],
     cursor: Cursor,
     labels: &mut [u16],
     centroids: &mut [f32],
-    distances: &mut [f32],
-    trial_labels: &mut [u16],
-    places: &mut [u16],
 ) -> Kept
-    requires { ⌜ (Limits dim k (length (now labels)) × ((k ≤ length (now «training_own»)) × (length (now «training_own») ≤ length (now labels)))) × ((length (now values) ∷ length (now own) ∷ length (now training) ∷ length (now centroids) ∷ length (now distances) ∷ length (now «trial_labels») ∷ length (now places) ∷ []) ≡ spacesOf dim (length (now labels)) (length (now «training_own»)) k) ⌝ }
-    requires { ⌜ 0 < block ⌝ }
-    requires { ⌜ (now own ≡ normsOf (rowsFrom dim (length (now labels)) (now values))) × (now «training_own» ≡ normsOf (rowsFrom dim (length (now «training_own»)) (now training))) ⌝ }
+    requires { ⌜ Restartable plan (now values) (now training) (now norms) (length (now labels)) (length (now centroids)) ⌝ }
     requires { ⌜ cursor .at < length (now draws) ⌝ }
-    ensures { λ r. ⌜ Drawn (now (draws .entry)) cursor (r .cursor) (heldOf (now (labels .exit)) (rowsFrom dim k (now (centroids .exit))) r) (λ n. resultOf (rowsFrom dim (length (now (labels .entry))) (now (values .entry))) 0 ((iterate (now (draws .entry)) k dim block (rowsFrom dim (length (now («training_own» .entry))) (now (training .entry))) iterations (firstFit (now (draws .entry)) k (rowsFrom dim (length (now («training_own» .entry))) (now (training .entry))) n)) .centroids)) (λ n. (iterate (now (draws .entry)) k dim block (rowsFrom dim (length (now («training_own» .entry))) (now (training .entry))) iterations (firstFit (now (draws .entry)) k (rowsFrom dim (length (now («training_own» .entry))) (now (training .entry))) n)) .made) ⌝ }
+    ensures { λ r. ⌜ (let rows = rowsFrom (plan .dim) (length (now (labels .entry))) (now (values .entry)) in
+        let train = trainingOf plan (now (training .entry)) (now (norms .entry)) in
+        let held = heldOf (now (labels .exit)) (centroidsOf plan (now (centroids .exit))) r in
+        Drawn (now (draws .entry)) cursor (r .cursor) held (λ n. resultOf rows 0 (fitOf (now (draws .entry)) plan train n .centroids))
+        (λ n. fitOf (now (draws .entry)) plan train n .made)) ⌝ }
 {
-    let aim = training_own.len();
-    let next = run_restart(
-        iterations,
-        training,
-        training_own,
-        dim,
-        block,
-        k,
-        draws,
-        cursor,
-        places,
-        centroids,
-        &mut trial_labels[..aim],
-        &mut distances[..aim],
-    );
-    let objective = finish_restart(values, own, dim, centroids, k, labels, distances);
+    let next = run_restart(plan, training, norms, draws, cursor, centroids);
+    let objective = finish_restart(plan, values, centroids, labels);
     Kept {
         objective,
         restart: 0,
@@ -136,48 +102,33 @@ fn first_restart(
 fn try_restart(
     number: u32,
     best: Kept,
-    iterations: usize,
-    block: usize,
-    dim: usize,
-    k: usize,
+    plan: Plan,
     values: &[f32],
-    own: &[f32],
     training: &[f32],
-    training_own: &[f32],
+    norms: &[f32],
     draws: &[u32],
     labels: &mut [u16],
     centroids: &mut [f32],
-    distances: &mut [f32],
-    trial_labels: &mut [u16],
-    places: &mut [u16],
-    trial: &mut [f32],
 ) -> Kept
-    requires { ⌜ (Limits dim k (length (now labels)) × ((k ≤ length (now «training_own»)) × (length (now «training_own») ≤ length (now labels)))) × ((length (now values) ∷ length (now own) ∷ length (now training) ∷ length (now centroids) ∷ length (now distances) ∷ length (now «trial_labels») ∷ length (now places) ∷ []) ≡ spacesOf dim (length (now labels)) (length (now «training_own»)) k) ⌝ }
-    requires { ⌜ (0 < block) × (length (now trial) ≡ k * dim) ⌝ }
-    requires { ⌜ (now own ≡ normsOf (rowsFrom dim (length (now labels)) (now values))) × (now «training_own» ≡ normsOf (rowsFrom dim (length (now «training_own»)) (now training))) ⌝ }
+    requires { ⌜ Restartable plan (now values) (now training) (now norms) (length (now labels)) (length (now centroids)) ⌝ }
     requires { ⌜ best .cursor .at < length (now draws) ⌝ }
-    ensures { λ r. ⌜ Drawn (now (draws .entry)) (best .cursor) (r .cursor) (heldOf (now (labels .exit)) (rowsFrom dim k (now (centroids .exit))) r) (λ n. keepBetter (resultOf (rowsFrom dim (length (now (labels .entry))) (now (values .entry))) number ((iterate (now (draws .entry)) k dim block (rowsFrom dim (length (now («training_own» .entry))) (now (training .entry))) iterations (firstFit (now (draws .entry)) k (rowsFrom dim (length (now («training_own» .entry))) (now (training .entry))) n)) .centroids)) (heldOf (now (labels .entry)) (rowsFrom dim k (now (centroids .entry))) best)) (λ n. (iterate (now (draws .entry)) k dim block (rowsFrom dim (length (now («training_own» .entry))) (now (training .entry))) iterations (firstFit (now (draws .entry)) k (rowsFrom dim (length (now («training_own» .entry))) (now (training .entry))) n)) .made) ⌝ }
+    ensures { λ r. ⌜ (let rows = rowsFrom (plan .dim) (length (now (labels .entry))) (now (values .entry)) in
+        let fit = fitOf (now (draws .entry)) plan (trainingOf plan (now (training .entry)) (now (norms .entry))) in
+        let old = heldOf (now (labels .entry)) (centroidsOf plan (now (centroids .entry))) best in
+        let held = heldOf (now (labels .exit)) (centroidsOf plan (now (centroids .exit))) r in
+        Drawn (now (draws .entry)) (best .cursor) (r .cursor) held
+        (λ n. keepBetter (resultOf rows number (fit n .centroids)) old) (λ n. fit n .made)) ⌝ }
 {
-    let aim = training_own.len();
+    let rows = labels.len();
+    let width = plan.k * plan.dim;
     let from = best.cursor;
-    let next = run_restart(
-        iterations,
-        training,
-        training_own,
-        dim,
-        block,
-        k,
-        draws,
-        from,
-        places,
-        trial,
-        &mut trial_labels[..aim],
-        &mut distances[..aim],
-    );
-    let objective = finish_restart(values, own, dim, trial, k, trial_labels, distances);
+    let mut trial = rooms::row_room();
+    let mut trial_labels = rooms::cell_room();
+    let next = run_restart(plan, training, norms, draws, from, &mut trial[..width]);
+    let objective = finish_restart(plan, values, &trial[..width], &mut trial_labels[..rows]);
     if objective < best.objective {
-        cells::copy_cells(labels, trial_labels);
-        cells::copy(centroids, trial);
+        cells::copy_cells(labels, &trial_labels[..rows]);
+        cells::copy(centroids, &trial[..width]);
         return Kept {
             objective,
             restart: number,
@@ -193,67 +144,46 @@ fn try_restart(
 
 // All restarts: the first is kept until one has a strictly smaller objective.
 fn run_restarts(
-    config: KMeansConfig,
-    dim: usize,
-    k: usize,
+    restarts: u32,
+    plan: Plan,
     values: &[f32],
-    own: &[f32],
     training: &[f32],
-    training_own: &[f32],
+    norms: &[f32],
     draws: &[u32],
     cursor: Cursor,
     labels: &mut [u16],
     centroids: &mut [f32],
-    distances: &mut [f32],
-    trial_labels: &mut [u16],
-    places: &mut [u16],
-    trial: &mut [f32],
 ) -> Kept
-    requires { ⌜ (Limits dim k (length (now labels)) × ((k ≤ length (now «training_own»)) × (length (now «training_own») ≤ length (now labels)))) × ((length (now values) ∷ length (now own) ∷ length (now training) ∷ length (now centroids) ∷ length (now distances) ∷ length (now «trial_labels») ∷ length (now places) ∷ []) ≡ spacesOf dim (length (now labels)) (length (now «training_own»)) k) ⌝ }
-    requires { ⌜ (0 < config .«decode_block_size») × (length (now trial) ≡ k * dim) ⌝ }
-    requires { ⌜ (now own ≡ normsOf (rowsFrom dim (length (now labels)) (now values))) × (now «training_own» ≡ normsOf (rowsFrom dim (length (now «training_own»)) (now training))) ⌝ }
+    requires { ⌜ Restartable plan (now values) (now training) (now norms) (length (now labels)) (length (now centroids)) ⌝ }
     requires { ⌜ cursor .at < length (now draws) ⌝ }
-    ensures { λ r. ⌜ Drawn (now (draws .entry)) cursor (r .cursor) (heldOf (now (labels .exit)) (rowsFrom dim k (now (centroids .exit))) r) (λ n. (restartsOf (now (draws .entry)) config k dim (rowsFrom dim (length (now («training_own» .entry))) (now (training .entry))) (rowsFrom dim (length (now (labels .entry))) (now (values .entry))) (config .nredo - 1) n) .result) (λ n. (restartsOf (now (draws .entry)) config k dim (rowsFrom dim (length (now («training_own» .entry))) (now (training .entry))) (rowsFrom dim (length (now (labels .entry))) (now (values .entry))) (config .nredo - 1) n) .made) ⌝ }
+    ensures { λ r. ⌜ (let rows = rowsFrom (plan .dim) (length (now (labels .entry))) (now (values .entry)) in
+        let train = trainingOf plan (now (training .entry)) (now (norms .entry)) in
+        let after = restartsOf (now (draws .entry)) plan train rows (restarts - 1) in
+        let held = heldOf (now (labels .exit)) (centroidsOf plan (now (centroids .exit))) r in
+        Drawn (now (draws .entry)) cursor (r .cursor) held (λ n. after n .result) (λ n. after n .made)) ⌝ }
 {
-    let iterations = config.niter as usize;
-    let block = config.decode_block_size as usize;
     let mut best = first_restart(
-        iterations,
-        block,
-        dim,
-        k,
+        plan,
         values,
-        own,
         training,
-        training_own,
+        norms,
         draws,
         cursor,
         labels,
         centroids,
-        distances,
-        trial_labels,
-        places,
     );
     let mut number = 1u32;
-    while number < config.nredo {
+    while number < restarts {
         let next = try_restart(
             number,
             best,
-            iterations,
-            block,
-            dim,
-            k,
+            plan,
             values,
-            own,
             training,
-            training_own,
+            norms,
             draws,
             labels,
             centroids,
-            distances,
-            trial_labels,
-            places,
-            trial,
         );
         best = next;
         number += 1;
@@ -261,7 +191,7 @@ fn run_restarts(
     best
 }
 
-// K-means of rows that are lent, from a cursor on; every slice is of its length, and what the work slices hold afterwards is not said.
+// K-means of rows that are lent, from a cursor on; every slice is of its length, and what `training` holds afterwards is not said.
 pub fn run_kmeans_flat(
     config: KMeansConfig,
     k: usize,
@@ -272,40 +202,47 @@ pub fn run_kmeans_flat(
     labels: &mut [u16],
     centroids: &mut [f32],
     training: &mut [f32],
-    own: &mut [f32],
-    training_own: &mut [f32],
-    distances: &mut [f32],
-    trial_labels: &mut [u16],
-    places: &mut [u16],
 ) -> Kept
-    requires { ⌜ (Limits dim k (length (now labels)) × ((k ≤ length (now labels)) × ((config .«max_points_per_centroid» ≤ 4096) × (0 < config .«decode_block_size»)))) × ((length (now values) ∷ length (now labels) ∷ length (now centroids) ∷ length (now training) ∷ length (now own) ∷ length (now «training_own») ∷ length (now distances) ∷ length (now «trial_labels») ∷ length (now places) ∷ []) ≡ (length (now labels) * dim ∷ lengthsOf (length (now labels)) dim k)) ⌝ }
+    requires { ⌜ Limits dim k (length (now labels)) × ((k ≤ length (now labels))
+        × ((config .«max_points_per_centroid» ≤ 4096) × (0 < config .«decode_block_size»))) ⌝ }
+    requires { ⌜ (length (now values) ≡ length (now labels) * dim) × ((length (now centroids) ≡ k * dim)
+        × (length (now training) ≡ length (now labels) * dim)) ⌝ }
     requires { ⌜ cursor .at < length (now draws) ⌝ }
-    ensures { λ r. ⌜ Drawn (now (draws .entry)) cursor (r .cursor) (heldOf (now (labels .exit)) (rowsFrom dim k (now (centroids .exit))) r) (λ n. (kmeans (now (draws .entry)) n config k dim (rowsFrom dim (length (now (labels .entry))) (now (values .entry)))) .result) (λ n. (kmeans (now (draws .entry)) n config k dim (rowsFrom dim (length (now (labels .entry))) (now (values .entry)))) .made) ⌝ }
+    ensures { λ r. ⌜ (let rows = rowsFrom dim (length (now (labels .entry))) (now (values .entry)) in
+        let held = heldOf (now (labels .exit)) (rowsFrom dim k (now (centroids .exit))) r in
+        Drawn (now (draws .entry)) cursor (r .cursor) held (λ n. kmeans (now (draws .entry)) n config k dim rows .result)
+        (λ n. kmeans (now (draws .entry)) n config k dim rows .made)) ⌝ }
 {
     let rows = labels.len();
-    let aim = training::target(k, rows, config.max_points_per_centroid as usize);
-    let next = training::select_training_indices(draws, cursor, places, aim);
+    let aim = training::target(k, rows, numbers::index(config.max_points_per_centroid));
     let cells = aim * dim;
-    training::gather_rows(values, dim, rows, &places[..aim], &mut training[..cells]);
-    nearest::compute_norms(values, dim, own);
-    nearest::compute_norms(&training[..cells], dim, &mut training_own[..aim]);
-    let width = k * dim;
-    let mut trial = [0.0f32; 4096];
-    run_restarts(
-        config,
+    let plan = Plan {
         dim,
         k,
+        iterations: numbers::index(config.niter),
+        block: numbers::index(config.decode_block_size),
+    };
+    let mut norms = rooms::row_room();
+    let next = training::choose_training(
+        draws,
+        cursor,
         values,
-        own,
+        dim,
+        rows,
+        aim,
+        &mut training[..cells],
+    );
+    nearest::compute_norms(&training[..cells], dim, &mut norms[..aim]);
+    let restarts = config.nredo;
+    run_restarts(
+        restarts,
+        plan,
+        values,
         &training[..cells],
-        &training_own[..aim],
+        &norms[..aim],
         draws,
         next,
         labels,
         centroids,
-        distances,
-        trial_labels,
-        &mut places[..aim],
-        &mut trial[..width],
     )
 }

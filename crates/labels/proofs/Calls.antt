@@ -11,8 +11,8 @@ use Rattle.sums.specs.Refusals.{unless, onAccepted, cellsOf, padded, blankCell}
 use Rattle.sums.proofs.Tables.{length-tab}
 use Rattle.labels.specs.Label.{nearests, labelsOf}
 use Rattle.labels.specs.Call.{labelRefusal, labelCall, told, Gives}
-use Rattle.labels.specs.declared.label.LabelAnswer.{LabelAnswer}
-use Rattle.labels.specs.declared.label.LabelAnswer.the-variants.{Labelled, Refused}
+use Rattle.labels.specs.declared.call.LabelAnswer.{LabelAnswer}
+use Rattle.labels.specs.declared.call.LabelAnswer.the-variants.{Labelled, Refused}
 use Rattle.sums.proofs.Refusing.{both, within-is, passed, padded-all, padded-none}
 use Rattle.labels.proofs.Assigns.{labels-tab}
 

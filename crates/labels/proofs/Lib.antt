@@ -1,7 +1,11 @@
--- The laws that the proofs of this layer share, and what labelling promises.
+-- The laws that the proofs of this layer share, and what labelling and the pool promise.
 pub mod Columns
 pub mod Searches
 pub mod Assigns
 pub mod Calls
 pub mod Firsts
 pub mod Promises
+pub mod Blocks
+pub mod Pools
+pub mod Farther
+pub mod PoolPromises

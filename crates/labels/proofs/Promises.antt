@@ -12,8 +12,8 @@ use Rattle.sums.specs.Cells.{Below}
 use Rattle.sums.specs.Refusals.{Answer, accepted, unless, onAccepted, cellsOf, blankCell}
 use Rattle.sums.proofs.Tables.{map-index, length-tab, getD-tab}
 use Rattle.sums.proofs.Rows.{rows-length}
-use Rattle.labels.specs.declared.label.LabelAnswer.{LabelAnswer}
-use Rattle.labels.specs.declared.label.LabelAnswer.the-variants.{Labelled}
+use Rattle.labels.specs.declared.call.LabelAnswer.{LabelAnswer}
+use Rattle.labels.specs.declared.call.LabelAnswer.the-variants.{Labelled}
 use Rattle.labels.specs.Label.{score, nothingYet, nearest, nearests, labelsOf, distancesOf}
 use Rattle.labels.specs.Call.{labelRefusal, labelCall, told, Gives}
 use Rattle.sums.proofs.Refusing.{padded-all}

@@ -9,8 +9,8 @@ use lib.Ieee.{Float}
 use Rattle.sums.specs.Rows.{rowsFrom}
 use Rattle.sums.specs.Refusals.{Answer, accepted, refused, within, lowest, unless, onAccepted, cellsOf, blankCell}
 use Rattle.labels.specs.Label.{nearests, labelsOf}
-use Rattle.labels.specs.declared.label.LabelAnswer.{LabelAnswer}
-use Rattle.labels.specs.declared.label.LabelAnswer.the-variants.{Labelled, Refused}
+use Rattle.labels.specs.declared.call.LabelAnswer.{LabelAnswer}
+use Rattle.labels.specs.declared.call.LabelAnswer.the-variants.{Labelled, Refused}
 
 -- 1: rows, dim or k out of range; 2: a slice is not as long as they say
 unfoldable pub labelRefusal : ℕ → ℕ → ℕ → ℕ → ℕ → ℕ → ℕ

@@ -9,13 +9,15 @@ ghost use Rattle.labels.specs.Panels.{dotsOf, valueAt, panelsOf};
 // acc with x times each of the sixteen values of panel from `at` on added.
 fn lane16(acc: &mut [f32; 16], x: f32, panel: &[f32], at: usize)
     requires { ⌜ (length (now acc) ≡ 16) × (at + 16 ≤ length (now panel)) ⌝ }
-    ensures { λ _. ⌜ now (acc .exit) ≡ tabulate (λ j. add binary32 (getD (now (acc .entry)) j nan) (mul binary32 x (getD (now (panel .entry)) (at + j) nan))) 16 ⌝ }
+    ensures { λ _. ⌜ now (acc .exit)
+        ≡ tabulate (λ j. add binary32 (getD (now (acc .entry)) j nan) (mul binary32 x (getD (now (panel .entry)) (at + j) nan))) 16 ⌝ }
 {
     for j in 0..16usize {
         acc[j] = acc[j] + x * panel[at + j];
     }
 }
 
+// The dots of a row with the columns of a panel.
 pub fn dots16(row: &[f32], panel: &[f32]) -> [f32; 16]
     requires { ⌜ 16 * length (now row) ≤ length (now panel) ⌝ }
     ensures { λ r. ⌜ r ≡ dotsOf (now (row .entry)) (now (panel .entry)) ⌝ }
@@ -38,7 +40,8 @@ pub struct DotsPair {
 // The panel is read once for both rows.
 pub fn dots16_pair(first: &[f32], second: &[f32], panel: &[f32]) -> DotsPair
     requires { ⌜ (length (now second) ≡ length (now first)) × (16 * length (now first) ≤ length (now panel)) ⌝ }
-    ensures { λ r. ⌜ (r .first ≡ dotsOf (now (first .entry)) (now (panel .entry))) × (r .second ≡ dotsOf (now (second .entry)) (now (panel .entry))) ⌝ }
+    ensures { λ r. ⌜ (r .first ≡ dotsOf (now (first .entry)) (now (panel .entry)))
+        × (r .second ≡ dotsOf (now (second .entry)) (now (panel .entry))) ⌝ }
 {
     let mut a = [0.0f32; 16];
     let mut b = [0.0f32; 16];

@@ -4,14 +4,15 @@ ghost use mathlib.Core.Bool.{_&&_};
 ghost use Prim.Native.Nat.{_+_, _-_, _*_, _/_, _≤_, _<_};
 ghost use lib.Dec.{eqb};
 ghost use lib.ListN.{length, getD, set};
-ghost use lib.Ieee.{nan};
-ghost use Rattle.sums.specs.Rows.{rowsFrom, rowAt};
+ghost use Rattle.sums.specs.Rows.{rowsFrom};
 ghost use Rattle.sums.specs.Tables.{tabulate};
 ghost use Rattle.sums.specs.Refusals.{sameAll};
 ghost use Rattle.sums.specs.Sums.{infinity as Sums·infinity, normOf};
-ghost use Rattle.labels.specs.Label.{scoreFrom, better as Label·better, nearestFrom, nearests, labelsOf, distancesOf};
-ghost use Rattle.labels.specs.Inside.{normsOf, byPanels, Assignable};
+ghost use Rattle.labels.specs.Label.{scoreFrom, better as Label·better, nearests, labelsOf, distancesOf};
+ghost use Rattle.labels.specs.Inside.{normsOf, scanned, byPanels, foundBy, Assignable};
 use crate::lanes;
+use sums::numbers;
+use sums::rooms;
 
 // A cluster, and the score of a row against it.
 pub struct Nearest {
@@ -41,12 +42,6 @@ fn infinity() -> f32
     f32::from_bits(0x7f80_0000)
 }
 
-fn least(a: usize, b: usize) -> usize
-    ensures { λ r. ⌜ r ≡ a - (a - b) ⌝ }
-{
-    if a < b { a } else { b }
-}
-
 // best, after the scores of `count` clusters from `from` on, whose dots with the row are the first of `dots`.
 fn scan16(
     best: Nearest,
@@ -57,7 +52,7 @@ fn scan16(
     count: usize,
 ) -> Nearest
     requires { ⌜ (count ≤ 16) × ((from + count ≤ length (now norms)) × (length (now norms) ≤ 65536)) ⌝ }
-    ensures { λ r. ⌜ r ≡ nearestFrom from (tabulate (λ j. scoreFrom own (getD (now (norms .entry)) (from + j) nan) (getD (now (dots .entry)) j nan)) count) best ⌝ }
+    ensures { λ r. ⌜ r ≡ scanned own (now (norms .entry)) (now (dots .entry)) from count best ⌝ }
 {
     let mut found = best;
     let mut j = 0usize;
@@ -90,7 +85,7 @@ fn find_nearest(row: &[f32], own: f32, panels: &[f32], norms: &[f32]) -> Nearest
     let mut from = 0usize;
     let mut at = 0usize;
     while from < k {
-        let count = least(k - from, 16);
+        let count = numbers::least(k - from, 16);
         let end = at + wide;
         let dots = lanes::dots16(row, &panels[at..end]);
         best = scan16(best, own, &dots, norms, from, count);
@@ -124,8 +119,8 @@ fn scan16_pair(
     count: usize,
 ) -> NearestPair
     requires { ⌜ (count ≤ 16) × ((from + count ≤ length (now norms)) × (length (now norms) ≤ 65536)) ⌝ }
-    ensures { λ r. ⌜ r .first ≡ nearestFrom from (tabulate (λ j. scoreFrom own (getD (now (norms .entry)) (from + j) nan) (getD (dots .first) j nan)) count) (best .first) ⌝ }
-    ensures { λ r. ⌜ r .second ≡ nearestFrom from (tabulate (λ j. scoreFrom other (getD (now (norms .entry)) (from + j) nan) (getD (dots .second) j nan)) count) (best .second) ⌝ }
+    ensures { λ r. ⌜ r .first ≡ scanned own (now (norms .entry)) (dots .first) from count (best .first) ⌝ }
+    ensures { λ r. ⌜ r .second ≡ scanned other (now (norms .entry)) (dots .second) from count (best .second) ⌝ }
 {
     let first = dots.first;
     let second = dots.second;
@@ -171,7 +166,7 @@ fn find_nearest_pair(
     let mut from = 0usize;
     let mut at = 0usize;
     while from < k {
-        let count = least(k - from, 16);
+        let count = numbers::least(k - from, 16);
         let end = at + wide;
         let dots = lanes::dots16_pair(row, second, &panels[at..end]);
         best = scan16_pair(best, own, other, dots, norms, from, count);
@@ -207,7 +202,8 @@ fn still(same: bool, old: u16, new: u16) -> bool
 // What is found for row i, put to its cells; true exactly where `same` is and the label is the one that stood there.
 fn put(labels: &mut [u16], distances: &mut [f32], i: usize, found: Nearest, same: bool) -> bool
     requires { ⌜ (i < length (now labels)) × (i < length (now distances)) ⌝ }
-    ensures { λ _. ⌜ (now (labels .exit) ≡ set (now (labels .entry)) i (found .label)) × (now (distances .exit) ≡ set (now (distances .entry)) i (found .distance)) ⌝ }
+    ensures { λ _. ⌜ (now (labels .exit) ≡ set (now (labels .entry)) i (found .label))
+        × (now (distances .exit) ≡ set (now (distances .entry)) i (found .distance)) ⌝ }
     ensures { λ r. ⌜ r ≡ (same && eqb (getD (now (labels .entry)) i 0) (found .label)) ⌝ }
 {
     let stands = still(same, labels[i], found.label);
@@ -226,10 +222,13 @@ fn assign_by_panels(
     labels: &mut [u16],
     distances: &mut [f32],
 ) -> bool
-    requires { ⌜ (length (now values) ≡ length (now labels) * dim) × ((length (now distances) ≡ length (now labels)) × (length (now own) ≡ length (now labels))) ⌝ }
+    requires { ⌜ (length (now values) ≡ length (now labels) * dim)
+        × ((length (now distances) ≡ length (now labels)) × (length (now own) ≡ length (now labels))) ⌝ }
     requires { ⌜ (dim ≤ 64) × ((length (now norms) ≤ 64) × ((length (now norms) + 15) / 16 * (16 * dim) ≤ length (now panels))) ⌝ }
-    ensures { λ _. ⌜ now (labels .exit) ≡ tabulate (λ i. byPanels (rowAt (now (values .entry)) dim i) (getD (now (own .entry)) i nan) (now (panels .entry)) (now (norms .entry)) .label) (length (now (labels .entry))) ⌝ }
-    ensures { λ _. ⌜ now (distances .exit) ≡ tabulate (λ i. byPanels (rowAt (now (values .entry)) dim i) (getD (now (own .entry)) i nan) (now (panels .entry)) (now (norms .entry)) .distance) (length (now (labels .entry))) ⌝ }
+    ensures { λ _. ⌜ (let found = foundBy dim (now (values .entry)) (now (own .entry)) (now (panels .entry)) (now (norms .entry)) in
+        now (labels .exit) ≡ tabulate (λ i. found i .label) (length (now (labels .entry)))) ⌝ }
+    ensures { λ _. ⌜ (let found = foundBy dim (now (values .entry)) (now (own .entry)) (now (panels .entry)) (now (norms .entry)) in
+        now (distances .exit) ≡ tabulate (λ i. found i .distance) (length (now (labels .entry)))) ⌝ }
     ensures { λ r. ⌜ r ≡ sameAll (now (labels .entry)) (now (labels .exit)) ⌝ }
 {
     let mut same = true;
@@ -255,7 +254,34 @@ fn assign_by_panels(
     same
 }
 
-// Labels and distances of the rows; true exactly where every label is the one that stood there.
+// Labels and distances of the rows; `panels` is room for the centroids' panels.
+fn assign_in(
+    values: &[f32],
+    own: &[f32],
+    dim: usize,
+    centroids: &[f32],
+    k: usize,
+    panels: &mut [f32],
+    labels: &mut [u16],
+    distances: &mut [f32],
+) -> bool
+    requires { ⌜ Assignable dim k (now values) (now own) (now centroids) (length (now labels)) (length (now distances)) ⌝ }
+    requires { ⌜ length (now panels) ≡ (k + 15) / 16 * (16 * dim) ⌝ }
+    ensures { λ _. ⌜ (let rows = rowsFrom dim (length (now (labels .entry))) (now (values .entry)) in
+        now (labels .exit) ≡ labelsOf (nearests (rowsFrom dim k (now (centroids .entry))) rows)) ⌝ }
+    ensures { λ _. ⌜ (let rows = rowsFrom dim (length (now (labels .entry))) (now (values .entry)) in
+        now (distances .exit) ≡ distancesOf (nearests (rowsFrom dim k (now (centroids .entry))) rows)) ⌝ }
+    ensures { λ r. ⌜ r ≡ sameAll (now (labels .entry)) (now (labels .exit)) ⌝ }
+{
+    let mut lengths = [0.0f32; 64];
+    let count = (k + 15) / 16;
+    lanes::fill_panels(centroids, dim, k, count, panels);
+    compute_norms(centroids, dim, &mut lengths[..k]);
+    assign_by_panels(values, own, dim, panels, &lengths[..k], labels, distances)
+}
+
+// Labels and distances of the rows; true exactly where every label is the one that stood there. Few and short centroids get little room,
+// since the room is cleared in every call.
 pub fn assign_rows(
     values: &[f32],
     own: &[f32],
@@ -266,22 +292,34 @@ pub fn assign_rows(
     distances: &mut [f32],
 ) -> bool
     requires { ⌜ Assignable dim k (now values) (now own) (now centroids) (length (now labels)) (length (now distances)) ⌝ }
-    ensures { λ _. ⌜ now (labels .exit) ≡ labelsOf (nearests (rowsFrom dim k (now (centroids .entry))) (rowsFrom dim (length (now (labels .entry))) (now (values .entry)))) ⌝ }
-    ensures { λ _. ⌜ now (distances .exit) ≡ distancesOf (nearests (rowsFrom dim k (now (centroids .entry))) (rowsFrom dim (length (now (labels .entry))) (now (values .entry)))) ⌝ }
+    ensures { λ _. ⌜ (let rows = rowsFrom dim (length (now (labels .entry))) (now (values .entry)) in
+        now (labels .exit) ≡ labelsOf (nearests (rowsFrom dim k (now (centroids .entry))) rows)) ⌝ }
+    ensures { λ _. ⌜ (let rows = rowsFrom dim (length (now (labels .entry))) (now (values .entry)) in
+        now (distances .exit) ≡ distancesOf (nearests (rowsFrom dim k (now (centroids .entry))) rows)) ⌝ }
     ensures { λ r. ⌜ r ≡ sameAll (now (labels .entry)) (now (labels .exit)) ⌝ }
 {
-    let mut room = [0.0f32; 4096];
-    let mut lengths = [0.0f32; 64];
-    let count = (k + 15) / 16;
-    let cells = count * (16 * dim);
-    lanes::fill_panels(centroids, dim, k, count, &mut room[..cells]);
-    compute_norms(centroids, dim, &mut lengths[..k]);
-    assign_by_panels(
+    let cells = (k + 15) / 16 * (16 * dim);
+    if cells <= 512 {
+        let mut little = [0.0f32; 512];
+        return assign_in(
+            values,
+            own,
+            dim,
+            centroids,
+            k,
+            &mut little[..cells],
+            labels,
+            distances,
+        );
+    }
+    let mut room = rooms::row_room();
+    assign_in(
         values,
         own,
         dim,
-        &room[..cells],
-        &lengths[..k],
+        centroids,
+        k,
+        &mut room[..cells],
         labels,
         distances,
     )

@@ -16,8 +16,8 @@ use Rattle.sums.proofs.Refusing.{both}
 use Rattle.words.specs.Bytes.{u32At, wordsFrom, floatsFrom}
 use Rattle.kmeans.specs.KMeans.{Result}
 use Rattle.kmeans.specs.Call.{kmeansCall}
-use Rattle.bench.specs.Exports.{codeOf, figureOf, Gave, configOf}
-use Rattle.bench.proofs.Exporting.{KMeansGave}
+use Rattle.exports.specs.Exports.{codeOf, figureOf, Gave, configOf}
+use Rattle.exports.proofs.Exporting.{KMeansGave}
 use Rattle.batch.specs.Batch.{putFront}
 use Rattle.replay.specs.Replay.{bytesAgree, agrees, agreeing}
 
@@ -80,14 +80,13 @@ pub room : {A : Type 0} (v : A) (n : ℕ) → n ≤ 320 → length (take (n / 4)
 room v n h = length-take-le (n / 4) (replicate 80 v) (omega arith)
 
 -- ---- the call of k-means, of what the record says
-pub kmeans-read : (head drawBytes valueBytes : List ℕ) (d v n m : ℕ) (rows dim k iterations restarts points block training own trainingOwn distances trialLabels places : ℕ) (draws : List ℕ) (values : List Float) (number restart : ℕ) (objective : Float) (l : List ℕ) (c : List Float)
+pub kmeans-read : (head drawBytes valueBytes : List ℕ) (d v n m : ℕ) (rows dim k iterations restarts points block training : ℕ) (draws : List ℕ) (values : List Float) (number restart : ℕ) (objective : Float) (l : List ℕ) (c : List Float)
     → rows ≡ u32At head 24 → dim ≡ u32At head 28 → k ≡ u32At head 32 → iterations ≡ u32At head 36 → restarts ≡ u32At head 40 → points ≡ u32At head 44 → block ≡ u32At head 48
-    → draws ≡ wordsFrom d drawBytes → values ≡ floatsFrom v valueBytes
-    → training ≡ v → own ≡ n → trainingOwn ≡ n → distances ≡ n → trialLabels ≡ n → places ≡ n
-    → KMeansGave (kmeansCall rows dim k (configOf iterations restarts points block) draws values (n ∷ m ∷ training ∷ own ∷ trainingOwn ∷ distances ∷ trialLabels ∷ places ∷ [])) n m number l c objective restart
-    → KMeansGave (kmeansCall (u32At head 24) (u32At head 28) (u32At head 32) (configOf (u32At head 36) (u32At head 40) (u32At head 44) (u32At head 48)) (wordsFrom d drawBytes) (floatsFrom v valueBytes) (n ∷ m ∷ v ∷ n ∷ n ∷ n ∷ n ∷ n ∷ [])) n m number l c objective restart
-kmeans-read head drawBytes valueBytes d v n m rows dim k iterations restarts points block training own trainingOwn distances trialLabels places draws values number restart objective l c e1 e2 e3 e4 e5 e6 e7 e8 e9 f1 f2 f3 f4 f5 f6 g =
-    rw (e1, e2, e3, e4, e5, e6, e7, e8, e9, f1, f2, f3, f4, f5, f6) at g
+    → draws ≡ wordsFrom d drawBytes → values ≡ floatsFrom v valueBytes → training ≡ v
+    → KMeansGave (kmeansCall rows dim k (configOf iterations restarts points block) draws values (n ∷ m ∷ training ∷ [])) n m number l c objective restart
+    → KMeansGave (kmeansCall (u32At head 24) (u32At head 28) (u32At head 32) (configOf (u32At head 36) (u32At head 40) (u32At head 44) (u32At head 48)) (wordsFrom d drawBytes) (floatsFrom v valueBytes) (n ∷ m ∷ v ∷ [])) n m number l c objective restart
+kmeans-read head drawBytes valueBytes d v n m rows dim k iterations restarts points block training draws values number restart objective l c e1 e2 e3 e4 e5 e6 e7 e8 e9 f g =
+    rw (e1, e2, e3, e4, e5, e6, e7, e8, e9, f) at g
 
 -- ---- a text over a buffer of its length
 pub front-whole : (text buffer : List ℕ) → length text ≡ length buffer → putFront text buffer ≡ text

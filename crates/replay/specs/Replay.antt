@@ -12,7 +12,7 @@ use Rattle.sums.specs.Refusals.{Answer, sameAll, cellsOf, blankCell}
 use Rattle.words.specs.Bytes.{u32At, wordsFrom, floatsFrom, bytes16}
 use Rattle.kmeans.specs.KMeans.{Result}
 use Rattle.kmeans.specs.Call.{kmeansCall}
-use Rattle.bench.specs.Exports.{codeOf, figureOf, labelCall, closureBytesCall, closureWritten, configOf}
+use Rattle.exports.specs.Exports.{codeOf, figureOf, labelCall, closureBytesCall, closureWritten, configOf}
 use Rattle.batch.specs.Batch.{listingOf}
 use Rattle.replay.specs.declared.Tally.{Tally}
 
@@ -36,8 +36,7 @@ closureAgrees head vector centroids stored =
 unfoldable pub kmeansAgreesOf : ℕ → ℕ → ℕ → ℕ → List ℕ → List ℕ → List ℕ → List ℕ → List ℕ → Bool
 kmeansAgreesOf d v n m head draws values labels centroids =
     let w : ℕ → ℕ = u32At head in
-    let lent = n ∷ m ∷ v ∷ n ∷ n ∷ n ∷ n ∷ n ∷ [] in
-    let answer = kmeansCall (w 24) (w 28) (w 32) (configOf (w 36) (w 40) (w 44) (w 48)) (wordsFrom d draws) (floatsFrom v values) lent in
+    let answer = kmeansCall (w 24) (w 28) (w 32) (configOf (w 36) (w 40) (w 44) (w 48)) (wordsFrom d draws) (floatsFrom v values) (n ∷ m ∷ v ∷ []) in
     eqb (codeOf answer) (w 4) && eqb (figureOf 0 (λ (a : Result). a .restart) answer) (w 52)
     && eqb (toBits binary64 (figureOf zero32 (λ (a : Result). a .objective) answer)) (w 56 + 4294967296 * w 60)
     && sameAll (cellsOf blankCell n (λ (a : Result). a .labels) answer) (wordsFrom n labels)

@@ -11,7 +11,9 @@ ghost use Rattle.words.specs.Bytes.{u32At, wordsFrom};
 ghost use Rattle.batch.specs.Batch.{listingOf};
 ghost use Rattle.replay.specs.Replay.{labelAgrees, closureAgrees, kmeansAgrees, kmeansAgreesOf};
 use crate::same;
+use sums::bits;
 use sums::checks;
+use sums::numbers;
 
 fn bytes_agree(number: u32, result: &[u8], head: &[u8], stored: &[u8]) -> bool
     requires { ⌜ length (now head) ≡ 64 ⌝ }
@@ -21,6 +23,7 @@ fn bytes_agree(number: u32, result: &[u8], head: &[u8], stored: &[u8]) -> bool
     checks::both(number_same, same::bytes(result, stored))
 }
 
+// A stored case of a label.
 pub fn label_agrees(
     head: &[u8],
     row: &[u8],
@@ -33,10 +36,11 @@ pub fn label_agrees(
 {
     let dim = words::u32_at(head, 24);
     let k = words::u32_at(head, 28);
-    let number = bench::families_label(dim, k, row, centroids, result);
+    let number = exports::bytes::families_label(dim, k, row, centroids, result);
     bytes_agree(number, result, head, stored)
 }
 
+// A stored case of closure.
 pub fn closure_agrees(
     head: &[u8],
     vector: &[u8],
@@ -51,14 +55,16 @@ pub fn closure_agrees(
     let count = words::u32_at(head, 28);
     let replicas = (words::u32_at(head, 32) % 65536) as u16;
     let epsilon = sums::bits::float_of(words::u32_at(head, 36));
-    let number = bench::families_closure(dim, count, replicas, epsilon, vector, centroids, result);
+    let number = exports::bytes::families_closure(
+        dim,
+        count,
+        replicas,
+        epsilon,
+        vector,
+        centroids,
+        result,
+    );
     bytes_agree(number, result, head, stored)
-}
-
-fn long(x: u32) -> u64
-    ensures { λ r. ⌜ (r ≡ x) × (r < 4294967296) ⌝ }
-{
-    x as u64
 }
 
 // Word 14 counts least.
@@ -66,8 +72,8 @@ fn stored_objective(head: &[u8]) -> u64
     requires { ⌜ length (now head) ≡ 64 ⌝ }
     ensures { λ r. ⌜ r ≡ u32At (now (head .entry)) 56 + 4294967296 * u32At (now (head .entry)) 60 ⌝ }
 {
-    let low = long(words::u32_at(head, 56));
-    let high = long(words::u32_at(head, 60));
+    let low = numbers::long(words::u32_at(head, 56));
+    let high = numbers::long(words::u32_at(head, 60));
     low + 4294967296 * high
 }
 
@@ -90,8 +96,8 @@ fn kmeans_told(
 {
     let number_same = same::numbers(number, words::u32_at(head, 4));
     let a = checks::both(number_same, same::numbers(restart, words::u32_at(head, 52)));
-    let bits = same::double_bits_of(objective);
-    let b = checks::both(a, same::long_numbers(bits, stored_objective(head)));
+    let found = bits::double_bits_of(objective);
+    let b = checks::both(a, same::long_numbers(found, stored_objective(head)));
     let e = checks::both(b, same::cells(l, labels));
     checks::both(e, same::floats(c, centroids))
 }
@@ -108,23 +114,18 @@ fn kmeans_inside(
     l: &mut [u16],
     c: &mut [f32],
     training: &mut [f32],
-    own: &mut [f32],
-    training_own: &mut [f32],
-    distances: &mut [f32],
-    trial_labels: &mut [u16],
-    places: &mut [u16],
 ) -> bool
     requires { ⌜ (length (now head) ≡ 64) × ((length (now draws) ≡ length (now d) * 4) × (length (now values) ≡ length (now v) * 4)) ⌝ }
-    requires { ⌜ (length (now labels) ≡ length (now l) * 4) × (length (now centroids) ≡ length (now c) * 4) ⌝ }
-    requires { ⌜ (length (now training) ≡ length (now v)) × ((length (now own) ≡ length (now l)) × (length (now «training_own») ≡ length (now l))) ⌝ }
-    requires { ⌜ (length (now distances) ≡ length (now l)) × ((length (now «trial_labels») ≡ length (now l)) × (length (now places) ≡ length (now l))) ⌝ }
-    ensures { λ r. ⌜ r ≡ kmeansAgreesOf (length (now (d .entry))) (length (now (v .entry))) (length (now (l .entry))) (length (now (c .entry))) (now (head .entry)) (now (draws .entry)) (now (values .entry)) (now (labels .entry)) (now (centroids .entry)) ⌝ }
+    requires { ⌜ (length (now labels) ≡ length (now l) * 4) × ((length (now centroids) ≡ length (now c) * 4)
+        × (length (now training) ≡ length (now v))) ⌝ }
+    ensures { λ r. ⌜ r ≡ kmeansAgreesOf (length (now (d .entry))) (length (now (v .entry))) (length (now (l .entry))) (length (now (c .entry)))
+        (now (head .entry)) (now (draws .entry)) (now (values .entry)) (now (labels .entry)) (now (centroids .entry)) ⌝ }
 {
     words::words_of(draws, d);
     words::floats_of(values, v);
     let mut objective = 0.0f64;
     let mut restart = 0u32;
-    let number = bench::families_kmeans(
+    let number = exports::slices::families_kmeans(
         words::u32_at(head, 24),
         words::u32_at(head, 28),
         words::u32_at(head, 32),
@@ -139,11 +140,6 @@ fn kmeans_inside(
         &mut objective,
         &mut restart,
         training,
-        own,
-        training_own,
-        distances,
-        trial_labels,
-        places,
     );
     kmeans_told(number, restart, objective, l, c, head, labels, centroids)
 }
@@ -162,6 +158,7 @@ fn all_whole(draws: usize, values: usize, labels: usize, centroids: usize) -> bo
     checks::both(b, whole_words(centroids))
 }
 
+// A stored case of k-means: it runs and gives what is stored.
 pub fn kmeans_agrees(
     head: &[u8],
     draws: &[u8],
@@ -185,11 +182,6 @@ pub fn kmeans_agrees(
     let mut l = [0u16; 80];
     let mut c = [0.0f32; 80];
     let mut training = [0.0f32; 80];
-    let mut own = [0.0f32; 80];
-    let mut training_own = [0.0f32; 80];
-    let mut distances = [0.0f32; 80];
-    let mut trial_labels = [0u16; 80];
-    let mut places = [0u16; 80];
     kmeans_inside(
         head,
         draws,
@@ -201,11 +193,6 @@ pub fn kmeans_agrees(
         &mut l[..n],
         &mut c[..wide],
         &mut training[..many],
-        &mut own[..n],
-        &mut training_own[..n],
-        &mut distances[..n],
-        &mut trial_labels[..n],
-        &mut places[..n],
     )
 }
 

@@ -8,6 +8,7 @@ ghost use lib.Ieee.{binary32, binary64, toBits};
 ghost use Rattle.sums.specs.Refusals.{sameAll};
 ghost use Rattle.words.specs.Bytes.{wordsFrom};
 
+// Bytes against bytes.
 pub fn bytes(a: &[u8], b: &[u8]) -> bool
     ensures { λ r. ⌜ r ≡ sameAll (now (a .entry)) (now (b .entry)) ⌝ }
 {
@@ -45,16 +46,6 @@ pub fn cells(cells: &[u16], stored: &[u8]) -> bool
     true
 }
 
-// `f64::to_bits` is not defined at a NaN; this is the pattern that the definition writes for it.
-pub fn double_bits_of(x: f64) -> u64
-    ensures { λ r. ⌜ r ≡ toBits binary64 x ⌝ }
-{
-    if x != x {
-        return 0x7ff8_0000_0000_0000;
-    }
-    f64::to_bits(x)
-}
-
 // Floats against words, by their bits.
 pub fn floats(floats: &[f32], stored: &[u8]) -> bool
     requires { ⌜ length (now stored) ≡ length (now floats) * 4 ⌝ }
@@ -70,12 +61,14 @@ pub fn floats(floats: &[f32], stored: &[u8]) -> bool
     true
 }
 
+// Two numbers of 32 bits.
 pub fn numbers(a: u32, b: u32) -> bool
     ensures { λ r. ⌜ r ≡ eqb a b ⌝ }
 {
     a == b
 }
 
+// Two numbers of 64 bits.
 pub fn long_numbers(a: u64, b: u64) -> bool
     ensures { λ r. ⌜ r ≡ eqb a b ⌝ }
 {

@@ -1,5 +1,5 @@
 -- Fronts and rests of lists, under a map too, and what is lent of an array or put back into it. Assumes nothing.
-use Prim.Native.Nat.{ℕ, zero, suc, _+_, _-_, _≤_, suc-le-suc, zero-le}
+use Prim.Native.Nat.{ℕ, zero, suc, _+_, _-_, _≤_, min, suc-le-suc, zero-le}
 use mathlib.Core.Path.{_≡_, refl, sym, ap, _∙_}
 use mathlib.Core.Bool.{Bool, true, false}
 use mathlib.Core.List.{List, [], _∷_, _++_, flatMap, append-assoc}
@@ -9,7 +9,7 @@ use borrow.Author.Tests.{leb-true, leb-false}
 use borrow.Rule.Slice.PartMut.{midOf, putMid}
 use lib.Dec.{leb}
 use lib.ListN.{length, take, drop, length-append, length-drop, drop-of-length-le}
-use lib.Seq.{take-nil, take-take, take-all, take-at, drop-at, length-take-le}
+use lib.Seq.{take-nil, take-take, take-all, take-at, take-append-le, drop-at, length-take-le}
 use Rattle.sums.specs.Tables.{tabulate}
 use Rattle.sums.proofs.Tables.{tab-add, length-tab}
 
@@ -25,25 +25,25 @@ module _ {A : Type 0} where
   take-few (suc n) [] = zero-le
   take-few (suc n) (x ∷ l) = suc-le-suc (take-few n l)
 
-  -- the lesser of a and the length, where the lesser is written with two differences
-  pub take-least : (a : ℕ) (l : List A) → take (a - (a - length l)) l ≡ take a l
+  -- the lesser of a and the length
+  pub take-least : (a : ℕ) (l : List A) → take (min a (length l)) l ≡ take a l
   take-least a l = go (leb a (length l)) refl
     where
-      go : (b : Bool) → leb a (length l) ≡ b → take (a - (a - length l)) l ≡ take a l
-      go true h = let e : a - (a - length l) ≡ a = omega (arith, leb-true a (length l) h) in rw e
+      go : (b : Bool) → leb a (length l) ≡ b → take (min a (length l)) l ≡ take a l
+      go true h = let e : min a (length l) ≡ a = omega (arith, leb-true a (length l) h) in rw e
       go false h =
           let k = leb-false a (length l) h in
-          let e : a - (a - length l) ≡ length l = omega (arith, k) in
+          let e : min a (length l) ≡ length l = omega (arith, k) in
           rw e (take-all (length l) l (omega arith) ∙ sym (take-all a l (omega (arith, k))))
 
-  pub drop-least : (a : ℕ) (l : List A) → drop (length l - (length l - a)) l ≡ drop a l
+  pub drop-least : (a : ℕ) (l : List A) → drop (min (length l) a) l ≡ drop a l
   drop-least a l = go (leb a (length l)) refl
     where
-      go : (b : Bool) → leb a (length l) ≡ b → drop (length l - (length l - a)) l ≡ drop a l
-      go true h = let e : length l - (length l - a) ≡ a = omega (arith, leb-true a (length l) h) in rw e
+      go : (b : Bool) → leb a (length l) ≡ b → drop (min (length l) a) l ≡ drop a l
+      go true h = let e : min (length l) a ≡ a = omega (arith, leb-true a (length l) h) in rw e
       go false h =
           let k = leb-false a (length l) h in
-          drop-of-length-le l {i = length l - (length l - a)} (omega (arith, k)) ∙ sym (drop-of-length-le l {i = a} (omega (arith, k)))
+          drop-of-length-le l {i = min (length l) a} (omega (arith, k)) ∙ sym (drop-of-length-le l {i = a} (omega (arith, k)))
 
   -- a part of a front is a part of the whole
   pub part-of-front : (m p c : ℕ) (l : List A) → p + m ≤ c → take m (drop p (take c l)) ≡ take m (drop p l)
@@ -53,7 +53,7 @@ module _ {A : Type 0} where
   part-of-front m (suc p) (suc c) (x ∷ l) h = part-of-front m p c l (omega arith)
 
   -- how long a front is: n, or the whole length if that is less
-  pub length-cut : (n : ℕ) (l : List A) → length (take n l) ≡ n - (n - length l)
+  pub length-cut : (n : ℕ) (l : List A) → length (take n l) ≡ min n (length l)
   length-cut zero l = omega arith
   length-cut (suc n) [] = omega arith
   length-cut (suc n) (x ∷ l) = omega (arith, length-cut n l)
@@ -88,6 +88,12 @@ module _ {A : Type 0} where
   front {n} {l} {xs} e h rest =
       let k : length l ≡ n = ap length e ∙ h in
       record { fits = omega (arith, length-append l rest); is = take-at l rest n k ∙ e; long = ap length (take-at l rest n k) ∙ k }
+
+  -- the first n of what came back
+  pub front-part : (n : ℕ) (l rest : List A) → n ≤ length l → Front n (l ++ rest) (take n l)
+  front-part n l rest h =
+      let e = take-append-le n l rest h in
+      record { fits = omega (arith, length-append l rest); is = e; long = ap length e ∙ length-take-le n l h }
 
 module _ {A : Type 0} where
   -- n of the m that a list has are lent

@@ -6,18 +6,21 @@ ghost use Rattle.sums.specs.Tables.{upTo};
 ghost use Rattle.sums.specs.Cells.{Below};
 ghost use Rattle.sums.specs.Draws.{drawn, exchangesFrom, Drawn};
 use crate::cells;
+use crate::numbers;
 
 // The place in the draw list.
 pub struct Cursor {
     pub at: usize,
 }
 
+// A number drawn, and the place after it.
 pub struct Draw {
     pub number: u32,
     pub next: Cursor,
 }
 
 impl Cursor {
+    // Where a call starts.
     pub fn new() -> Self
         ensures { λ r. ⌜ r .at ≡ 0 ⌝ }
     {
@@ -45,17 +48,12 @@ impl Cursor {
     }
 }
 
-fn wide(x: u32) -> usize
-    ensures { λ r. ⌜ r ≡ x ⌝ }
-{
-    x as usize
-}
-
 // Picks `count` of the numbers below the slice's length: they stand in front.
 pub fn pick(draws: &[u32], from: Cursor, places: &mut [u16], count: usize) -> Cursor
     requires { ⌜ (from .at < length (now draws)) × ((count ≤ length (now places)) × (length (now places) ≤ 65536)) ⌝ }
     ensures { λ r. ⌜ Below (length (now (places .entry))) (now (places .exit)) ⌝ }
-    ensures { λ r. ⌜ Drawn (now (draws .entry)) from r (now (places .exit)) (λ n. exchangesFrom (now (draws .entry)) (length (now (places .entry))) n 0 count (upTo (length (now (places .entry))))) (λ n. n + count) ⌝ }
+    ensures { λ r. ⌜ (let m = length (now (places .entry)) in
+        Drawn (now (draws .entry)) from r (now (places .exit)) (λ n. exchangesFrom (now (draws .entry)) m n 0 count (upTo m)) (λ n. n + count)) ⌝ }
 {
     cells::count_up(places);
     let m = places.len();
@@ -63,7 +61,7 @@ pub fn pick(draws: &[u32], from: Cursor, places: &mut [u16], count: usize) -> Cu
     let mut i = 0usize;
     while i < count {
         let drawn = cursor.draw(draws);
-        let j = i + wide(drawn.number) % (m - i);
+        let j = i + numbers::index(drawn.number) % (m - i);
         let a = places[i];
         places[i] = places[j];
         places[j] = a;

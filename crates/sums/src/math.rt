@@ -1,8 +1,9 @@
 // Sums in stated order: from +0.0, index ascending, each product rounded before it is added (01, 'Sums in stated order').
 ghost use mathlib.Core.Path.{_≡_};
 ghost use lib.ListN.{length};
-ghost use Rattle.sums.specs.Sums.{normOf, dotOf, apartOf, spreadOf, addRow};
+ghost use Rattle.sums.specs.Sums.{normOf, apartOf, spreadOf, addRow};
 
+// The norm of a row.
 pub fn norm(v: &[f32]) -> f32
     ensures { λ r. ⌜ r ≡ normOf (now (v .entry)) ⌝ }
 {
@@ -15,19 +16,7 @@ pub fn norm(v: &[f32]) -> f32
     sum
 }
 
-pub fn dot(a: &[f32], b: &[f32]) -> f32
-    requires { ⌜ length (now a) ≡ length (now b) ⌝ }
-    ensures { λ r. ⌜ r ≡ dotOf (now (a .entry)) (now (b .entry)) ⌝ }
-{
-    let mut sum = 0.0f32;
-    let mut i = 0usize;
-    while i < a.len() {
-        sum = sum + a[i] * b[i];
-        i += 1;
-    }
-    sum
-}
-
+// The squared distance of two rows.
 pub fn l2_distance_sqr(a: &[f32], b: &[f32]) -> f32
     requires { ⌜ length (now a) ≡ length (now b) ⌝ }
     ensures { λ r. ⌜ r ≡ apartOf (now (a .entry)) (now (b .entry)) ⌝ }
@@ -57,6 +46,7 @@ pub fn spread(point: &[f32], centroid: &[f32]) -> f64
     sum
 }
 
+// A row added to sums, value by value.
 pub fn add_row(sums: &mut [f32], row: &[f32])
     requires { ⌜ length (now sums) ≡ length (now row) ⌝ }
     ensures { λ _. ⌜ now (sums .exit) ≡ addRow (now (sums .entry)) (now (row .entry)) ⌝ }

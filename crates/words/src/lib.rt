@@ -11,6 +11,7 @@ fn wide(byte: u8) -> u32
     byte as u32
 }
 
+// The 32-bit number of four bytes from `at` on.
 pub fn u32_at(bytes: &[u8], at: usize) -> u32
     requires { ⌜ at + 4 ≤ length (now bytes) ⌝ }
     ensures { λ r. ⌜ r ≡ u32At (now (bytes .entry)) at ⌝ }
@@ -22,6 +23,7 @@ pub fn u32_at(bytes: &[u8], at: usize) -> u32
     a + 256 * (b + 256 * (c + 256 * d))
 }
 
+// A float from each four bytes.
 pub fn floats_of(bytes: &[u8], out: &mut [f32])
     requires { ⌜ length (now bytes) ≡ length (now out) * 4 ⌝ }
     ensures { λ _. ⌜ now (out .exit) ≡ floatsFrom (length (now (out .entry))) (now (bytes .entry)) ⌝ }
@@ -33,6 +35,7 @@ pub fn floats_of(bytes: &[u8], out: &mut [f32])
     }
 }
 
+// A number from each four bytes.
 pub fn words_of(bytes: &[u8], out: &mut [u32])
     requires { ⌜ length (now bytes) ≡ length (now out) * 4 ⌝ }
     ensures { λ _. ⌜ now (out .exit) ≡ wordsFrom (length (now (out .entry))) (now (bytes .entry)) ⌝ }

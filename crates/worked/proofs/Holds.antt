@@ -1,6 +1,6 @@
 -- Every line of the table holds, by computing.
 use mathlib.Core.Path.{refl}
-use Rattle.splitting.specs.Groups.{splitFrom}
+use Rattle.grouping.specs.Groups.{splitFrom}
 use Rattle.worked.specs.Table.{Table}
 use Rattle.worked.proofs.Opened.{opened}
 use Rattle.worked.proofs.Settled.{P1-parts, P2-parts, P2-refused, P10-settles}

@@ -8,18 +8,18 @@ use Rattle.sums.specs.Ordering.{place, orderFrom, keep}
 use Rattle.sums.specs.Draws.{drawn, exchange, exchangesFrom, pick}
 use Rattle.sums.specs.Refusals.{sameAll, lowestFrom, unless, onAccepted}
 use Rattle.labels.specs.Label.{scoreFrom, score, better, nearestFrom, nearest, nearests}
-use Rattle.pool.specs.Pool.{farther, blockPool, blockPools, pool}
+use Rattle.labels.specs.Pool.{farther, blockPool, blockPools, pool}
 use Rattle.labels.specs.Call.{labelRefusal, labelCall}
-use Rattle.steps.specs.Steps.{target, trainingIf, countsFrom, sumsFrom, timesInverse, updateFrom, drawsAfter, update, objectiveFrom}
+use Rattle.kmeans.specs.Steps.{target, trainingIf, countsFrom, sumsFrom, timesInverse, updateFrom, drawsAfter, update, objectiveFrom}
 use Rattle.kmeans.specs.KMeans.{firstFit, resultOf, keepBetter, fitOf, restartsFrom, restartsOf, kmeans}
 use Rattle.kmeans.specs.Call.{rangesFit, lengthsFit, kmeansRefusal, kmeansCall}
 use Rattle.closure.specs.Closure.{nearer, reachOf, listed, closure, anyNan, unordered}
 use Rattle.closure.specs.Call.{closureRefusal, answered, closureCall}
-use Rattle.parts.specs.Parts.{having, flat}
-use Rattle.parts.specs.Balance.{allowed, seek, closestFrom, closestOf, balanced, moves}
-use Rattle.splitting.specs.Groups.{balanceIf, waits, pushed, after, front, back, groupFrom, meanOf}
+use Rattle.grouping.specs.Parts.{having, flat}
+use Rattle.grouping.specs.Balance.{allowed, seek, closestFrom, closestOf, balanced, moves}
+use Rattle.grouping.specs.Groups.{balanceIf, waits, pushed, after, front, back, groupFrom, meanOf}
 use Rattle.grouping.specs.Call as call
 
 unfoldable pub opened : Unit {0}
-unfolding add sub mul div lt le isNan ofInt toUnsigned flatMap flatten rowsFrom sumFrom normOf dotOf apartOf spreadOf addRow place orderFrom keep drawn exchange exchangesFrom pick sameAll lowestFrom unless onAccepted scoreFrom score better nearestFrom nearest nearests farther blockPool blockPools pool labelRefusal labelCall target trainingIf countsFrom sumsFrom timesInverse updateFrom drawsAfter update objectiveFrom firstFit resultOf keepBetter fitOf restartsFrom restartsOf kmeans rangesFit lengthsFit kmeansRefusal kmeansCall nearer reachOf listed closure anyNan unordered closureRefusal answered closureCall having flat allowed seek closestFrom closestOf balanced moves balanceIf waits pushed after front back groupFrom meanOf call.rangesFit call.lengthsFit call.groupingRefusal call.groupingCall
+unfolding add sub mul div lt le isNan ofInt toUnsigned flatMap flatten rowsFrom sumFrom normOf dotOf apartOf spreadOf addRow place orderFrom keep drawn exchange exchangesFrom pick sameAll lowestFrom unless onAccepted scoreFrom score better nearestFrom nearest nearests farther blockPool blockPools pool labelRefusal labelCall target trainingIf countsFrom sumsFrom timesInverse updateFrom drawsAfter update objectiveFrom firstFit resultOf keepBetter fitOf restartsFrom restartsOf kmeans rangesFit lengthsFit kmeansRefusal kmeansCall nearer reachOf listed closure anyNan unordered closureRefusal answered closureCall having flat allowed seek closestFrom closestOf balanced moves waits pushed after front back groupFrom meanOf call.rangesFit call.lengthsFit call.groupingRefusal call.groupingCall
 opened = tt

@@ -7,8 +7,8 @@ use lib.ListN.{getD, replicate}
 use Rattle.sums.specs.Tables.{upTo}
 use Rattle.labels.specs.declared.nearest.Nearest.{Nearest}
 use Rattle.labels.specs.Label.{nearests, labelsOf, distancesOf}
-use Rattle.pool.specs.Pool.{pool}
-use Rattle.steps.specs.Steps.{Fit, countsFrom, update, iterate}
+use Rattle.labels.specs.Pool.{pool}
+use Rattle.kmeans.specs.Steps.{Fit, countsFrom, update, iterate}
 use Rattle.kmeans.specs.KMeans.{Run, kmeans}
 use Rattle.worked.specs.Table.{alike}
 use Rattle.worked.proofs.Opened.{opened}

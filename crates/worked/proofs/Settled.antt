@@ -13,10 +13,10 @@ use Rattle.sums.specs.Rows.{Row}
 use Rattle.sums.specs.Sums.{zero32, one32, count32}
 use Rattle.sums.specs.Refusals.{refused}
 use Rattle.labels.specs.Label.{nearests}
-use Rattle.steps.specs.Steps.{Fit, update, iterate}
-use Rattle.steps.proofs.Iterations.{fixed}
-use Rattle.parts.specs.Balance.{share}
-use Rattle.splitting.specs.Groups.{Rule, balanceIf, partsOf, madeBy, splitFrom}
+use Rattle.kmeans.specs.Steps.{Fit, update, iterate}
+use Rattle.kmeans.proofs.Turns.{fixed}
+use Rattle.grouping.specs.Balance.{share}
+use Rattle.grouping.specs.Groups.{Rule, balanceIf, partsOf, madeBy, splitFrom}
 use Rattle.worked.specs.Table.{half}
 use Rattle.worked.proofs.Opened.{opened}
 
@@ -54,7 +54,7 @@ unfolding opened iterate
 P1-settles = settled (0 ∷ []) 2 1 32768 four 98 2 picked means refl refl
 
 pub P1-parts : partsOf (ruled four zero32) 0 (upTo 4) ≡ (0 ∷ 1 ∷ []) ∷ (2 ∷ 3 ∷ []) ∷ []
-unfolding opened partsOf
+unfolding opened partsOf balanceIf
 P1-parts = rw P1-settles
 
 -- ---- P2
@@ -72,17 +72,17 @@ P2-settles n = settled (0 ∷ []) 2 1 32768 five 100 0 (equal n) (equal n) refl 
 
 -- and k-means leaves them together
 P2-together : (weight : Float) (n : ℕ) → partsOf (ruled five weight) n (upTo 5)
-    ≡ balanceIf (lt zero32 weight) five (replicate 2 (fin false 3 (pos 0) ∷ [])) (share 5 2) weight (upTo 5 ∷ [] ∷ [])
+    ≡ balanceIf five (replicate 2 (fin false 3 (pos 0) ∷ [])) (share 5 2) weight (upTo 5 ∷ [] ∷ [])
 unfolding opened partsOf
 P2-together weight n = simp mod-one (rw P2-settles)
 
 pub P2-parts : partsOf (ruled five half) 0 (upTo 5) ≡ (2 ∷ 3 ∷ 4 ∷ []) ∷ (0 ∷ 1 ∷ []) ∷ []
-unfolding opened
+unfolding opened balanceIf
 P2-parts = P2-together half 0
 
 -- with no weight so does every split, until the budget is spent
 pub P2-refused : (left n : ℕ) → splitFrom (partsOf (ruled five zero32)) (madeBy (ruled five zero32)) 4 2 left n (upTo 5 ∷ []) ≡ refused 7
-unfolding opened splitFrom
+unfolding opened splitFrom balanceIf
 P2-refused zero n = refl
 P2-refused (suc left) n = rw (P2-together zero32 n, P2-refused left (madeBy (ruled five zero32) n (upTo 5)))
 

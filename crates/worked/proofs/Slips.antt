@@ -14,11 +14,11 @@ use Rattle.sums.specs.Sums.{zero32, one32, count32, sumFrom, apartOf, addRow, z
 use Rattle.sums.specs.Ordering.{place}
 use Rattle.sums.specs.Refusals.{Answer, accepted, refused}
 use Rattle.labels.specs.Label.{nearestFrom, nothingYet, nearest}
-use Rattle.pool.specs.Pool.{farther, pool}
-use Rattle.steps.specs.Steps.{timesInverse, iterate}
+use Rattle.labels.specs.Pool.{farther, pool}
+use Rattle.kmeans.specs.Steps.{timesInverse, iterate}
 use Rattle.kmeans.specs.KMeans.{Result, kmeans}
-use Rattle.parts.specs.Balance.{share, allowed, closestOf, moved, giver, taker, balance}
-use Rattle.splitting.specs.Groups.{Groups, partsOf, madeBy, waits, after, front, back, splitFrom, grouping, meanOf}
+use Rattle.grouping.specs.Balance.{share, allowed, closestOf, moved, giver, taker, balance}
+use Rattle.grouping.specs.Groups.{Groups, partsOf, madeBy, waits, after, front, back, splitFrom, grouping, meanOf}
 use Rattle.worked.specs.Table.{half, grouped}
 use Rattle.worked.proofs.Opened.{opened}
 use Rattle.worked.proofs.Settled.{ruled, four, P1-parts}

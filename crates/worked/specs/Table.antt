@@ -14,9 +14,9 @@ use Rattle.labels.specs.Call.{labelCall}
 use Rattle.kmeans.specs.KMeans.{usual}
 use Rattle.kmeans.specs.Call.{lengthsOf as KMeans·lengthsOf, kmeansCall}
 use Rattle.closure.specs.Call.{closureCall}
-use Rattle.parts.specs.Parts.{sizesOf}
-use Rattle.parts.specs.Balance.{share, allowed, balance, moves, toward}
-use Rattle.splitting.specs.Groups.{Groups}
+use Rattle.grouping.specs.Parts.{sizesOf}
+use Rattle.grouping.specs.Balance.{share, allowed, balance, moves, toward}
+use Rattle.grouping.specs.Groups.{Groups}
 use Rattle.grouping.specs.Call.{lengthsOf, groupingCall}
 
 -- `fin false m e` is m·2^e, and `fin true m e` its opposite; `negsuc n` is the exponent -(n + 1)
@@ -35,7 +35,7 @@ parts n others = replicate n 0 ∷ replicate others []
 abbrev batch : List Float → ℕ → ℕ → Float → ℕ → Answer Groups
 batch values limit branching weight budget =
     let n = length values in
-    groupingCall (record { draws = 0 ∷ []; dim = 1; rows = rowsFrom 1 n values; branching = branching; weight = weight }) n limit budget n (lengthsOf n 1)
+    groupingCall n 1 (record { limit = limit; branching = branching; weight = weight; budget = budget }) (0 ∷ []) values (lengthsOf n 1)
 
 abbrev pub grouped : List (List ℕ) → ℕ → Answer Groups
 grouped groups splits = accepted (record { groups = groups; splits = splits })

@@ -3,17 +3,20 @@
 //! `compare calls [SEED [TIMES]]`: generated calls of every exported function; TIMES multiplies their number.
 //! `compare files [SEED [COUNT]] [-- PROGRAM..]`: whole batch files through the listing program.
 //! `compare hostile [SEED [COUNT]]`: COUNT calls of each function and COUNT files that nobody means well with, all in this process.
+//! `compare stack`: measures the stack that each exported function takes; `compare stack --stated` makes the same calls on threads of
+//! the stated stack, and `compare stack --calls FUNCTION BYTES` those of one function in this process, on a thread of so many bytes.
 //!
 //! Without words it is `calls`. A case that differs is named by its seed and index. PROGRAM is `target/bin/listing` where none
 //! is named. A run that does not meet each kind of case often enough fails, whatever agreed.
 
-use std::env::args_os;
+use std::env::{args_os, current_exe};
 use std::ffi::OsString;
 use std::process::{exit, ExitCode};
 
 use compare::files::{self, Program};
 use compare::hostile;
 use compare::proved::Compared;
+use compare::stack;
 use compare::tally::Tally;
 use oracle::cases::{ClosureBytesCase, GroupingCase, KMeansCase, LabelBytesCase, LabelCase};
 
@@ -52,12 +55,28 @@ fn hostile(seed: u64, count: u64) -> Vec<Tally> {
 
 fn usage() -> ! {
     eprintln!("compare [calls | files | hostile] [SEED [COUNT]] [-- PROGRAM..]");
+    eprintln!("compare stack [--stated | --calls FUNCTION BYTES]");
     exit(2)
 }
 
+/// Whether the run went well.
+fn stack(words: &[OsString]) -> bool {
+    let words: Vec<_> = words.iter().map(|word| word.to_string_lossy()).collect();
+    let words: Vec<&str> = words.iter().map(|word| word.as_ref()).collect();
+    let own = current_exe().expect("this program has a path");
+    match words[..] {
+        [] => stack::measure(&own),
+        ["--stated"] => stack::try_stated(&own),
+        ["--calls", name, bytes] => {
+            let bytes = bytes.parse().unwrap_or_else(|_| usage());
+            stack::call(name, bytes).unwrap_or_else(|| usage())
+        }
+        _ => usage(),
+    }
+}
+
 /// The word of what is to be run, its numbers, and the program's words.
-fn arguments() -> (String, [Option<u64>; 2], Program) {
-    let words: Vec<OsString> = args_os().skip(1).collect();
+fn arguments(words: &[OsString]) -> (String, [Option<u64>; 2], Program) {
     let own = words.iter().position(|word| word == "--");
     let (own, program) = words.split_at(own.unwrap_or(words.len()));
     let mut own = own.iter().map(|word| word.to_string_lossy()).peekable();
@@ -68,8 +87,9 @@ fn arguments() -> (String, [Option<u64>; 2], Program) {
     (what.map_or("calls".into(), String::from), numbers, program)
 }
 
-fn main() -> ExitCode {
-    let (what, [seed, count], mut program) = arguments();
+/// Whether every case agreed.
+fn compare_all(words: &[OsString]) -> bool {
+    let (what, [seed, count], mut program) = arguments(words);
     let seed = seed.unwrap_or(1);
     let tallies = match what.as_str() {
         "calls" => calls(seed, count.unwrap_or(1)),
@@ -80,7 +100,16 @@ fn main() -> ExitCode {
         "hostile" => hostile(seed, count.unwrap_or(3_000)),
         _ => usage(),
     };
-    match tallies.iter().all(|tally| tally.failed == 0) {
+    tallies.iter().all(|tally| tally.failed == 0)
+}
+
+fn main() -> ExitCode {
+    let words: Vec<OsString> = args_os().skip(1).collect();
+    let went_well = match words.split_first() {
+        Some((first, rest)) if first == "stack" => stack(rest),
+        _ => compare_all(&words),
+    };
+    match went_well {
         true => ExitCode::SUCCESS,
         false => ExitCode::FAILURE,
     }

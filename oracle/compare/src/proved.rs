@@ -3,7 +3,7 @@
 use families::exported;
 use oracle::cases::{BytesOutcome, Case, ClosureBytesCase};
 use oracle::cases::{LabelBytesCase, LabelCase, LabelOutcome};
-use oracle::cases::{STALE_BYTE, STALE_CELL};
+use oracle::cases::{STALE_BYTE, STALE_CELL, STALE_FLOAT};
 use oracle::refusal::Refusal;
 
 use crate::tally::{number_kind, Need};
@@ -130,9 +130,16 @@ fn answer<T>(number: u32, accepted: T) -> Result<T, Refusal> {
     }
 }
 
-/// A length that does not fit: a cell less, or a cell more where it has to be.
-fn spoil<T>(slice: &mut Vec<T>, stale: T, shorter: bool) {
-    if !shorter || slice.pop().is_none() {
-        slice.push(stale);
+/// A length that does not fit: a cell less or a cell more.
+fn spoil(slice: &mut Vec<f32>, shorter: bool) {
+    match shorter {
+        true => drop(slice.pop()),
+        false => slice.push(STALE_FLOAT),
     }
+}
+
+/// The kind of a case that is refused for one work slice.
+fn wrong_kind(slice: &str, shorter: bool) -> String {
+    let how = if shorter { "short" } else { "long" };
+    format!("{slice} too {how}")
 }

@@ -26,14 +26,21 @@ pub fn side_by_side(rounds: usize, mut ours: impl FnMut(), mut theirs: impl FnMu
     (median(times.0), median(times.1))
 }
 
+/// Seconds that a run should take at least: the clock and a stray interruption weigh too much in a shorter one.
+const LEAST: f64 = 1e-3;
+
 /// As `side_by_side`, with ours run again and again for as long as theirs takes: on a busy machine a longer run is interrupted more
-/// often than a short one, which would flatter the faster side.
+/// often than a short one, which would flatter the faster side. Theirs too is run again where it takes less than a millisecond.
 pub fn as_long(rounds: usize, mut ours: impl FnMut(), mut theirs: impl FnMut()) -> (f64, f64) {
     let once = side_by_side(3, &mut ours, &mut theirs);
-    let times = (once.1 / once.0).round().max(1.0) as usize;
-    let again = || (0..times).for_each(|_| ours());
-    let (many, one) = side_by_side(rounds, again, theirs);
-    (many / times as f64, one)
+    let their_times = (LEAST / once.1).ceil().max(1.0);
+    let our_times = (their_times * once.1 / once.0).round().max(1.0);
+    let (many, others) = side_by_side(
+        rounds,
+        || (0..our_times as usize).for_each(|_| ours()),
+        || (0..their_times as usize).for_each(|_| theirs()),
+    );
+    (many / our_times, others / their_times)
 }
 
 /// Readings from -1 up to 1.

@@ -1,5 +1,5 @@
 //! The built programs `compare` and `fuzz` on files, with the oracle's own listing in the proved program's place, and with programs
-//! that are wrong in one way each.
+//! that are wrong in one way each; and `compare` on threads with enough stack and with too little.
 
 use std::process::{Command, Output};
 
@@ -81,4 +81,30 @@ fn hostile_files_have_every_kind_of_answer() {
     for number in [1, 4, 6, 7, 8] {
         assert!(run.printed.contains(&format!("refused {number} ")));
     }
+}
+
+fn calls_on_stack(name: &str, bytes: &str) -> Run {
+    compare(&["stack", "--calls", name, bytes])
+}
+
+#[test]
+fn calls_on_enough_stack_pass() {
+    let run = calls_on_stack("families_closure", "1048576");
+    assert!(run.succeeded, "{}", run.printed);
+    assert!(run.printed.contains(" passed, 0 failed"), "{}", run.printed);
+}
+
+/// On an Arm host the calls are made in another process, on its stack.
+#[cfg(target_arch = "x86_64")]
+#[test]
+fn too_little_stack_is_seen() {
+    let run = calls_on_stack("families_list", "65536");
+    assert!(!run.succeeded && !run.printed.contains("passed"));
+    let program = env!("CARGO_BIN_EXE_compare").as_ref();
+    assert!(!compare::stack::passes(program, "families_list", 65_536));
+}
+
+#[test]
+fn a_function_that_is_not_there_does_not_pass() {
+    assert!(!calls_on_stack("families_lists", "1048576").succeeded);
 }

@@ -88,7 +88,7 @@ fn kmeans(rounds: usize, dim: usize, k: usize, kind: Rows) {
         points_per_centroid: numbers.points_per_centroid,
         block: numbers.block,
     };
-    let mut work = KMeansWork::new(ROWS, dim, 0.0, 0);
+    let mut work = KMeansWork::new(ROWS, dim, 0.0);
     let mut mine = (vec![0u16; ROWS], vec![0.0f32; k * dim]);
     let mut others = (vec![0u16; ROWS], vec![0.0f32; k * dim]);
     let (proved, oracle) = side_by_side(

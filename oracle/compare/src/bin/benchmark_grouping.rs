@@ -8,7 +8,8 @@ use oracle::calls::{self, GroupingAccepted, GroupingLent, GroupingNumbers};
 use oracle::random::Random;
 use oracle::slips::Slip;
 
-const SHAPES: [(usize, usize); 2] = [(4_096, 3), (1_000, 16)];
+/// Whole batches, and one split of a group that is just above the limit.
+const SHAPES: [(usize, usize); 4] = [(4_096, 3), (1_000, 16), (41, 3), (41, 16)];
 const BRANCHINGS: [u32; 3] = [2, 16, 64];
 const LIMIT: u32 = 40;
 const WEIGHT: f32 = 0.25;
@@ -47,14 +48,13 @@ impl Batch {
         let values = match kind {
             Rows::Clustered => rows_around(random, rows, dim, CENTRES),
             Rows::Shapeless => values(random, rows * dim),
-            Rows::Repeating => values(random, 8 * dim).repeat(rows / 8),
+            Rows::Repeating => repeated(&values(random, 8 * dim), rows * dim),
         };
         Self {
             numbers: GroupingNumbers {
                 rows: rows as u32,
                 dim: dim as u32,
-                // A group of more rows than the limit and fewer than branching would be refused.
-                size_limit: LIMIT.max(branching),
+                size_limit: limit(branching),
                 branching,
                 weight: WEIGHT,
                 budget: BUDGET,
@@ -105,10 +105,28 @@ impl Batch {
     }
 }
 
+/// A group of more rows than the limit and fewer than branching would be refused.
+fn limit(branching: u32) -> u32 {
+    LIMIT.max(branching)
+}
+
+/// The values again and again, until there are as many.
+fn repeated(values: &[f32], count: usize) -> Vec<f32> {
+    values.iter().copied().cycle().take(count).collect()
+}
+
+/// Milliseconds, or microseconds where they say more.
+fn shown(seconds: f64) -> String {
+    match seconds < 1e-4 {
+        true => format!("{:8.2} µs", seconds * 1e6),
+        false => format!("{:8.2} ms", seconds * 1e3),
+    }
+}
+
 /// Seconds of both sides for one batch.
 fn measure(rounds: usize, batch: &Batch, kind: Rows) -> (f64, f64) {
     let numbers = &batch.numbers;
-    let mut work = GroupWork::new(numbers.rows as usize, numbers.dim as usize, 0.0, 0);
+    let mut work = GroupWork::new(numbers.rows as usize, numbers.dim as usize, 0.0);
     let (mut mine, mut others) = (batch.results(), batch.results());
     let accepted = batch.oracle(&mut others);
     let told = GroupTold {
@@ -123,13 +141,13 @@ fn measure(rounds: usize, batch: &Batch, kind: Rows) -> (f64, f64) {
     );
     assert_eq!(mine, others);
     println!(
-        "grouping {:4} rows dim {:2} branching {:2} {kind:?}: {:6.2}x the oracle; {:8.2} ms to {:8.2} ms, {} groups, {} splits",
+        "grouping {:4} rows dim {:2} branching {:2} {kind:?}: {:6.2}x the oracle; {} to {}, {} groups, {} splits",
         numbers.rows,
         numbers.dim,
         numbers.branching,
         oracle / proved,
-        proved * 1e3,
-        oracle * 1e3,
+        shown(proved),
+        shown(oracle),
         told.groups,
         told.splits,
     );
@@ -149,6 +167,10 @@ fn main() {
         let mut all = (0.0, 0.0);
         for (rows, dim) in SHAPES {
             for branching in BRANCHINGS {
+                // Rows at the limit are one group, and nothing is split.
+                if rows <= limit(branching) as usize {
+                    continue;
+                }
                 let batch = Batch::new(rows, dim, branching, kind);
                 let (proved, oracle) = measure(rounds, &batch, kind);
                 all = (all.0 + proved, all.1 + oracle);

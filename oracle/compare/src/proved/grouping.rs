@@ -6,47 +6,29 @@ use oracle::cases::{Case, GroupingCase, GroupingOutcome, STALE_CELL, STALE_FLOAT
 use oracle::random::Random;
 use oracle::slips::Slip;
 
-use super::kmeans::spoil_slice;
-use super::{answer, spoil, Compared, Proved};
+use super::{answer, spoil, wrong_kind, Compared, Proved};
 use crate::tally::{number_kind, Need};
 use crate::weights;
 
 /// The work slices, in the order of docs/BUFFERS.md.
-const SLICES: [&str; 10] = [
-    "waiting",
-    "copied",
-    "labels",
-    "gathered",
-    "training",
-    "own",
-    "training_own",
-    "distances",
-    "trial_labels",
-    "places",
-];
+const SLICES: [&str; 2] = ["gathered", "training"];
 
-/// Which slice of a case whose work slices don't fit is wrong, and whether it is shorter.
+/// Which slice of a case whose work slices don't fit is wrong, and whether it is too short.
 fn wrong_slice(case: &GroupingCase) -> (usize, bool) {
     let name = (case.values.len() as u64) << 32 | case.draws.len() as u64;
     let random = &mut Random::new(name, 93, case.numbers.rows.into());
-    (random.below(10) as usize, random.once_in(2))
+    let which = random.below(2) as usize;
+    (which, case.numbers.rows > 0 && random.once_in(2))
 }
 
-/// Work slices full of stale values; one of them is too long or short where the case says that they don't fit.
+/// Work slices full of stale values; one of them is too long or too short where the case says that they don't fit.
 fn work_of(case: &GroupingCase) -> GroupWork {
     let rows = case.numbers.rows.min(5_000) as usize;
     let dim = case.numbers.dim.min(100) as usize;
-    let mut work = GroupWork::new(rows, dim, STALE_FLOAT, STALE_CELL);
-    if case.work_fits {
-        return work;
-    }
-    let (which, shorter) = wrong_slice(case);
-    match which {
-        0 => spoil(&mut work.waiting, STALE_CELL, shorter),
-        1 => spoil(&mut work.copied, STALE_CELL, shorter),
-        2 => spoil(&mut work.labels, STALE_CELL, shorter),
-        3 => spoil(&mut work.gathered, STALE_FLOAT, shorter),
-        _ => spoil_slice(&mut work.kmeans, which - 4, shorter),
+    let mut work = GroupWork::new(rows, dim, STALE_FLOAT);
+    if !case.work_fits {
+        let (which, shorter) = wrong_slice(case);
+        spoil([&mut work.gathered, &mut work.training][which], shorter);
     }
     work
 }
@@ -104,16 +86,10 @@ impl Compared for GroupingCase {
         ("some rows not training", 10),
         ("a NaN mean", 10),
         ("groups changed by balancing", 50),
-        ("wrong waiting", 1),
-        ("wrong copied", 1),
-        ("wrong labels", 1),
-        ("wrong gathered", 1),
-        ("wrong training", 1),
-        ("wrong own", 1),
-        ("wrong training_own", 1),
-        ("wrong distances", 1),
-        ("wrong trial_labels", 1),
-        ("wrong places", 1),
+        ("gathered too short", 1),
+        ("gathered too long", 1),
+        ("training too short", 1),
+        ("training too long", 1),
     ];
 
     fn proved(&self) -> Proved<GroupingOutcome> {
@@ -157,7 +133,8 @@ impl Compared for GroupingCase {
             kinds.extend(accepted_kinds(self, outcome, accepted.splits));
         }
         if number == 2 && !self.work_fits {
-            kinds.push(format!("wrong {}", SLICES[wrong_slice(self).0]));
+            let (which, shorter) = wrong_slice(self);
+            kinds.push(wrong_kind(SLICES[which], shorter));
         }
         kinds
     }

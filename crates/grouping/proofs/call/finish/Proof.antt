@@ -1,25 +1,16 @@
-use Rattle.splitting.proofs.Acceptances.{taken, cut}
+use Rattle.grouping.proofs.Acceptances.{taken, cut}
 use Rattle.grouping.proofs.Calls.{gives-listed, gives-blank}
 use lib.ListN.{length}
-use mathlib.Core.Path.{sym, ap, _∙_}
-use native.Mathlib.Omega.{arith}
 use borrow.Author.Needs.{needs}
 use Rattle.grouping.proofs.call.finish.Statement.{statement}
 use Rattle.grouping.proofs.call.finish.Tie as tie
-use Rattle.grouping.proofs.call.finish.Reads as reads
-use Rattle.grouping.proofs.call.finish.Lts as lts
-use Rattle.splitting.proofs.means.fill_means.Reads as fill-means-reads
-use Rattle.sums.proofs.cells.fill.Reads as fill-reads
 
--- src/call.rt:142:36
 enum-known-found : tie.Need-enum-known-found
 enum-known-found c = search needs
 
--- src/call.rt:143:57
 cast-fill-means : tie.Need-cast-fill-means
 cast-fill-means c = search needs
 
--- src/call.rt:143:13
 fill-means-requires : tie.Need-fill-means-requires
 fill-means-requires c κs =
     let z = c .before .before .before .before .before .before .before .before .before .before in
@@ -28,46 +19,36 @@ fill-means-requires c κs =
     let t = taken (f .0) (length (z .args .order .now)) (c .before .before .before .before .found .given .0 .0) _ (z .args .order .now) (z .args .ends .now) (rw (c .before .before .before .before .found .given .1) at (f .1)) in
     (p .0, (cut t, (rw (p .0 .1 .1 .0) (t .fits), p .1 .1)))
 
--- src/call.rt:146:33
 enum-known-found-2 : tie.Need-enum-known-found-2
 enum-known-found-2 c = search needs
 
--- src/call.rt:147:13
 fill-requires : tie.Need-fill-requires
 fill-requires c κs = search needs
 
--- src/call.rt:148:13
 fill-requires-2 : tie.Need-fill-requires-2
 fill-requires-2 c κs = search needs
 
--- src/call.rt:129:1
 same-length : tie.Need-same-length
 same-length c = search needs
 
--- src/call.rt:129:1
 same-length-2 : tie.Need-same-length-2
 same-length-2 c = search needs
 
--- src/call.rt:129:1
 same-length-3 : tie.Need-same-length-3
 same-length-3 c = search needs
 
--- src/call.rt:129:1
 returns : tie.Need-returns
 returns c =
     λ answer h.
     let z = c .before .before .before .before .before .before .before .before .before .before .before .before .before in
     gives-listed answer (z .args .dim) (z .args .values .now) (z .args .order .now) (z .args .ends .now) (length (z .args .means .now)) (c .before .before .before .before .before .before .before .found .given .0 .0) (c .before .before .before .before .before .before .before .found .given .0 .1 .0) (c .before .before .fill-means .last .1 .1 .1 .1 .1 .0) (z .pre .0 .1 .1 .0) (rw (c .before .before .before .before .before .before .before .found .given .1) at h) (c .before .before .fill-means .ensures)
 
--- src/call.rt:129:1
 same-length-4 : tie.Need-same-length-4
 same-length-4 c = search needs
 
--- src/call.rt:129:1
 same-length-5 : tie.Need-same-length-5
 same-length-5 c = search needs
 
--- src/call.rt:129:1
 returns-2 : tie.Need-returns-2
 returns-2 c =
     λ answer h.

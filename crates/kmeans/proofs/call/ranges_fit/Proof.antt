@@ -4,64 +4,46 @@ use native.Mathlib.Omega.{arith}
 use borrow.Author.Needs.{needs}
 use Rattle.kmeans.proofs.call.ranges_fit.Statement.{statement}
 use Rattle.kmeans.proofs.call.ranges_fit.Tie as tie
-use Rattle.kmeans.proofs.call.ranges_fit.Reads as reads
-use Rattle.kmeans.proofs.call.ranges_fit.Lts as lts
-use Rattle.sums.proofs.checks.both.Reads as both-reads
-use Rattle.sums.proofs.checks.within.Reads as within-reads
 
--- src/call.rt:51:18
 within-requires : tie.Need-within-requires
 within-requires c κs = search needs
 
--- src/call.rt:51:41
 within-requires-2 : tie.Need-within-requires-2
 within-requires-2 c κs = search needs
 
--- src/call.rt:51:9
 both-requires : tie.Need-both-requires
 both-requires c κs = search needs
 
--- src/call.rt:52:21
 within-requires-3 : tie.Need-within-requires-3
 within-requires-3 c κs = search needs
 
--- src/call.rt:52:9
 both-requires-2 : tie.Need-both-requires-2
 both-requires-2 c κs = search needs
 
--- src/call.rt:53:21
 within-requires-4 : tie.Need-within-requires-4
 within-requires-4 c κs = search needs
 
--- src/call.rt:53:9
 both-requires-3 : tie.Need-both-requires-3
 both-requires-3 c κs = search needs
 
--- src/call.rt:54:21
 within-requires-5 : tie.Need-within-requires-5
 within-requires-5 c κs = search needs
 
--- src/call.rt:54:9
 both-requires-4 : tie.Need-both-requires-4
 both-requires-4 c κs = search needs
 
--- src/call.rt:55:21
 within-requires-6 : tie.Need-within-requires-6
 within-requires-6 c κs = search needs
 
--- src/call.rt:55:9
 both-requires-5 : tie.Need-both-requires-5
 both-requires-5 c κs = search needs
 
--- src/call.rt:56:13
 within-requires-7 : tie.Need-within-requires-7
 within-requires-7 c κs = search needs
 
--- src/call.rt:56:5
 both-requires-6 : tie.Need-both-requires-6
 both-requires-6 c κs = search needs
 
--- src/call.rt:48:1
 returns : tie.Need-returns
 unfolding rangesFit
 returns c =

@@ -1,82 +1,78 @@
-use Prim.Native.Nat.{ℕ, _*_}
-use mathlib.Core.Path.{_≡_, sym, ap, _∙_}
-use lib.ListN.{length, take}
-use lib.Seq.{length-take-le}
-use Rattle.sums.proofs.Rows.{rows-length}
-use Rattle.sums.proofs.Belows.{below-take}
-use Rattle.steps.proofs.Rooms.{room-in}
 use Rattle.kmeans.proofs.Restarts.{restarted}
+use Rattle.sums.proofs.Fronts.{Front, front-part, lent-front, lent-fits}
+use Rattle.sums.proofs.Belows.{below-take}
+use Rattle.sums.proofs.Rows.{rows-length}
+use lib.ListN.{length, take, drop}
+use mathlib.Core.List.{_++_}
+use mathlib.Core.Path.{_≡_, sym, ap, _∙_}
+use Prim.Native.Nat.{ℕ, _*_}
 use native.Mathlib.Omega.{arith}
 use borrow.Author.Needs.{needs}
 use Rattle.kmeans.proofs.restart.run_restart.Statement.{statement}
 use Rattle.kmeans.proofs.restart.run_restart.Tie as tie
-use Rattle.kmeans.proofs.restart.run_restart.Reads as reads
-use Rattle.kmeans.proofs.restart.run_restart.Lts as lts
-use Rattle.steps.proofs.alike.run_lloyd_iterations.Reads as run-lloyd-iterations-reads
-use Rattle.steps.proofs.training.gather_rows.Reads as gather-rows-reads
-use Rattle.sums.proofs.draws.pick.Reads as pick-reads
+
+cell-room-requires : tie.Need-cell-room-requires
+cell-room-requires c κs = search needs
+
+array-borrow-prefix-places : tie.Need-array-borrow-prefix-places
+array-borrow-prefix-places c = lent-fits _ 4096 (c .cell-room .result) (c .cell-room .ensures) (c .before .before .before .before .before .pre .0 .0 .few-rows)
+
+-- as many places are lent as rows train, and as many are picked as there are clusters
+places-lent : (c : tie.After-places) → let n = length (c .before .before .before .before .before .before .args .norms .now) in length (take n (c .before .cell-room .result)) ≡ n
+places-lent c = lent-front _ 4096 (c .before .cell-room .result) (c .before .cell-room .ensures) (c .before .before .before .before .before .before .pre .0 .0 .few-rows)
+
+picked : (c : tie.After-pick) → let a = c .before .before .before .before .before .before .before .args in let places = c .pick .last .1 .1 .0 in
+    Front (a .plan .k) (places ++ drop (length (a .norms .now)) (c .before .before .cell-room .result)) (take (a .plan .k) places)
+picked c = front-part _ (c .pick .last .1 .1 .0) _ (omega (arith, c .before .before .before .before .before .before .before .pre .0 .1, c .pick .kept .1 .1 .0, places-lent (c .before)))
+
+slice-aggregate-pick : tie.Need-slice-aggregate-pick
+slice-aggregate-pick c = sym (places-lent c)
 
 pick-requires : tie.Need-pick-requires
-pick-requires c κs = search needs
+pick-requires c κs =
+    let z = c .before .before .before .before .before .before in
+    (z .pre .1, (rw (places-lent c) (z .pre .0 .1), omega (arith, places-lent c, z .pre .0 .0 .few-rows)))
 
-slice-reshare-prefix-gather-rows : tie.Need-slice-reshare-prefix-gather-rows
-slice-reshare-prefix-gather-rows c = search needs
-
--- as many are picked as there are clusters
-picked : (c : tie.After-pick) → length (take (c .before .before .before .before .before .before .before .before .before .args .k) (c .pick .last .1 .1 .0)) ≡ c .before .before .before .before .before .before .before .before .before .args .k
-picked c = length-take-le _ (c .pick .last .1 .1 .0) (omega (arith, c .before .before .before .before .before .before .before .before .before .pre .1 .1, c .pick .kept .1 .1 .0))
+array-share-prefix-places : tie.Need-array-share-prefix-places
+array-share-prefix-places c = picked (c .before) .fits
 
 slice-aggregate-gather-rows : tie.Need-slice-aggregate-gather-rows
-slice-aggregate-gather-rows c = sym (picked (c .before .before .before))
+slice-aggregate-gather-rows c = sym (picked (c .before .before) .long)
 
 gather-rows-requires : tie.Need-gather-rows-requires
 gather-rows-requires c κs =
-    let z = c .before .before .before .before .before .before .before .before .before .before .before .before .before in
+    let z = c .before .before .before .before .before .before .before .before .before .before in
+    let t = z .pre .0 .0 in
     let a = z .args in
-    let r = room-in (z .pre .0) in
-    let p = c .before .before .before .before .pick in (
-      r .training-cells ∙ ap (λ (n : ℕ). n * a .dim) (sym (z .pre .1 .1 .1 .0)),
-      (
-        r .centroid-cells ∙ ap (λ (n : ℕ). n * a .dim) (sym (picked (c .before .before .before .before))),
-        (below-take (length (a .places .now)) (a .k) (p .last .1 .1 .0) (p .ensures .0), omega (arith, picked (c .before .before .before .before), r .few)),
-      ),
-    )
+    let p = c .before .before .before .pick in
+    let f = picked (c .before .before .before) in
+    (t .training-cells, (t .centroid-cells ∙ ap (λ (n : ℕ). n * a .plan .dim) (sym (f .long)), (rw (f .is) (below-take (length (a .norms .now)) (a .plan .k) (p .last .1 .1 .0) (rw (places-lent (c .before .before .before .before)) at (p .ensures .0))), omega (arith, f .long, t .planned .few))))
 
 run-lloyd-iterations-requires : tie.Need-run-lloyd-iterations-requires
-run-lloyd-iterations-requires c κs = let z = c .before .before .before .before .before .before .before .before .before .before .before .before .before .before .before .before .before .before .before in rw (c .before .before .before .before .before .gather-rows .kept .1 .1 .1 .1 .0) (z .pre .0, (z .pre .1 .0, c .before .before .before .before .before .before .before .before .before .before .pick .ensures .1 .inside))
+run-lloyd-iterations-requires c κs = rw (c .before .before .before .gather-rows .kept .1 .1 .1 .1 .0) (c .before .before .before .before .before .before .before .before .before .before .before .before .before .before .pre .0 .0, c .before .before .before .before .before .before .before .pick .ensures .1 .inside)
 
 same-length : tie.Need-same-length
-same-length c = c .before .before .before .before .before .before .before .before .before .before .before .before .before .before .before .before .before .pick .kept .1 .1 .0
-
-same-length-2 : tie.Need-same-length-2
-same-length-2 c = c .before .before .before .before .before .before .run-lloyd-iterations .kept .1 .1 .1 .1 .1 .1 .1 .1 .0 ∙ c .before .before .before .before .before .before .before .before .before .before .before .before .gather-rows .kept .1 .1 .1 .1 .0
-
-same-length-3 : tie.Need-same-length-3
-same-length-3 c = c .before .before .before .before .before .before .run-lloyd-iterations .kept .1 .1 .1 .1 .1 .1 .1 .1 .1 .0
-
-same-length-4 : tie.Need-same-length-4
-same-length-4 c = c .before .before .before .before .before .before .run-lloyd-iterations .kept .1 .1 .1 .1 .1 .1 .1 .1 .1 .1 .0
+same-length c = c .before .before .run-lloyd-iterations .kept .1 .1 .1 .1 .1 .0 ∙ c .before .before .before .before .before .before .gather-rows .kept .1 .1 .1 .1 .0
 
 returns : tie.Need-returns
 returns c =
-    let z = c .before .before .before .before .before .before .before .before .before .before .before .before .before .before .before .before .before .before .before .before .before .before .before .before .before .before in
-    let a = z .args in
-    let p = c .before .before .before .before .before .before .before .before .before .before .before .before .before .before .before .before .before .pick in
-    let g = c .before .before .before .before .before .before .before .before .before .before .before .before .gather-rows in
-    restarted _ _ _ _ _ (length (a .places .now)) _ _ _ _ _ _ _ (z .pre .1 .1 .1 .0 ∙ sym (rows-length (a .dim) (length (a .labels .now)) (a .training .now))) (p .ensures)
-    (rw (picked (c .before .before .before .before .before .before .before .before .before .before .before .before .before .before .before .before .before), z .pre .1 .1 .1 .0) at (g .ensures)) (c .before .before .before .before .before .before .run-lloyd-iterations .ensures)
+    let a = c .before .before .before .before .before .before .before .before .before .before .before .before .before .before .before .before .before .args in
+    let p = c .before .before .before .before .before .before .before .before .before .before .pick in
+    let f = picked (c .before .before .before .before .before .before .before .before .before .before) in
+    restarted _ (a .plan) (length (a .norms .now)) _ _ _ (p .last .1 .1 .0) _ _ _ (sym (rows-length (a .plan .dim) (length (a .norms .now)) (a .training .now)))
+    (rw (places-lent (c .before .before .before .before .before .before .before .before .before .before .before)) at (p .ensures .1)) (rw (f .long, f .is) at (c .before .before .before .before .before .before .gather-rows .ensures)) (c .before .before .run-lloyd-iterations .ensures)
 
 pub run-restart-spec : {M : Type 1} → statement M
 run-restart-spec =
     tie.close
     (tie.spec
+    cell-room-requires
+    array-borrow-prefix-places
+    slice-aggregate-pick
     pick-requires
-    slice-reshare-prefix-gather-rows
+    array-share-prefix-places
     slice-aggregate-gather-rows
     gather-rows-requires
     run-lloyd-iterations-requires
     same-length
-    same-length-2
-    same-length-3
-    same-length-4
     returns)

@@ -1,69 +1,95 @@
+use Rattle.kmeans.proofs.Restarts.{tried-better, tried-kept}
+use Rattle.kmeans.specs.Inside.{centroidsOf, Finished}
+use Rattle.sums.proofs.Fronts.{Front, front, lent-front, lent-fits}
+use Rattle.sums.specs.Rows.{rowsFrom}
+use lib.ListN.{length, take, drop}
+use native.Mathlib.Nat.{mul-le-mul}
 use mathlib.Core.List.{_++_}
 use mathlib.Core.Path.{_≡_, refl, sym, _∙_}
-use lib.ListN.{length, drop}
-use Rattle.steps.proofs.Rooms.{room-out}
-use Rattle.kmeans.proofs.Rooms.{spaces-in, part-fits, part-lent, part-back}
-use Rattle.kmeans.proofs.Restarts.{trained, tried-better, tried-kept}
+use Prim.Native.Nat.{_*_, _≤_}
+use native.Mathlib.Omega.{arith}
 use borrow.Author.Needs.{needs}
 use Rattle.kmeans.proofs.restart.try_restart.Statement.{statement}
 use Rattle.kmeans.proofs.restart.try_restart.Tie as tie
-use Rattle.kmeans.proofs.restart.try_restart.Reads as reads
-use Rattle.kmeans.proofs.restart.try_restart.Lts as lts
-use Rattle.sums.proofs.cells.copy_cells.Reads as copy-cells-reads
-use Rattle.kmeans.proofs.restart.finish_restart.Reads as finish-restart-reads
-use Rattle.kmeans.proofs.restart.run_restart.Reads as run-restart-reads
-use Rattle.sums.proofs.cells.copy.Reads as copy-reads
 
-slice-relend-prefix-run-restart : tie.Need-slice-relend-prefix-run-restart
-slice-relend-prefix-run-restart c = let z = c .before .before .before .before .before .before .before .before .before .before .before .before .before .before in let s = spaces-in (z .pre .0) in part-fits s (z .args .trial-labels .now) (s .trial-cells)
+-- the centroids on trial: their cells fit, as many are lent, and they come back in front
+width-fits : (z : tie.Start) → z .args .plan .k * z .args .plan .dim ≤ 4096
+width-fits z = let p = z .pre .0 .trainable .planned in mul-le-mul (p .few) (p .small-dim)
+
+trial-lent : (c : tie.After-trial) → let w = c .before .before .before .before .before .before .before .before .before .before .before .args .plan .k * c .before .before .before .before .before .before .before .before .before .before .before .args .plan .dim in length (take w (c .before .before .row-room .result)) ≡ w
+trial-lent c = lent-front _ 4096 (c .before .before .row-room .result) (c .before .before .row-room .ensures) (width-fits (c .before .before .before .before .before .before .before .before .before .before .before))
+
+trial-held : (c : tie.After-run-restart) → let w = c .before .before .before .before .before .before .before .before .before .before .before .before .args .plan .k * c .before .before .before .before .before .before .before .before .before .before .before .before .args .plan .dim in let trial = c .run-restart .last .1 .1 .1 .1 .1 .0 in
+    Front w (trial ++ drop w (c .before .before .before .row-room .result)) trial
+trial-held c = front refl (c .run-restart .kept .1 .1 .1 .1 .1 .0 ∙ trial-lent (c .before)) _
+
+-- and so do their labels
+labels-lent : (c : tie.After-trial-labels) → let n = length (c .before .before .before .before .before .before .before .before .before .before .before .before .before .before .before .args .labels .now) in length (take n (c .before .before .before .before .before .cell-room .result)) ≡ n
+labels-lent c = lent-front _ 4096 (c .before .before .before .before .before .cell-room .result) (c .before .before .before .before .before .cell-room .ensures) (c .before .before .before .before .before .before .before .before .before .before .before .before .before .before .before .pre .0 .few-labels)
+
+labels-held : (c : tie.After-finish-restart) → let n = length (c .before .before .before .before .before .before .before .before .before .before .before .before .before .before .before .before .args .labels .now) in let labels = c .finish-restart .last .1 .1 .1 .0 in
+    Front n (labels ++ drop n (c .before .before .before .before .before .before .cell-room .result)) labels
+labels-held c = front refl (c .finish-restart .kept .1 .1 .1 .0 ∙ labels-lent (c .before)) _
+
+finished : (c : tie.After-finish-restart) → let a = c .before .before .before .before .before .before .before .before .before .before .before .before .before .before .before .before .args in
+    Finished (rowsFrom (a .plan .dim) (length (a .labels .now)) (a .values .now)) (centroidsOf (a .plan) (c .before .before .before .before .run-restart .last .1 .1 .1 .1 .1 .0)) (c .finish-restart .last .1 .1 .1 .0) (c .finish-restart .result)
+finished c = rw (labels-lent (c .before), trial-held (c .before .before .before .before) .is) at (c .finish-restart .ensures)
+
+mul-width : tie.Need-mul-width
+mul-width c = omega (arith, width-fits (c .before .before .before .before .before .before .before))
+
+row-room-requires : tie.Need-row-room-requires
+row-room-requires c κs = search needs
+
+cell-room-requires : tie.Need-cell-room-requires
+cell-room-requires c κs = search needs
+
+array-borrow-prefix-trial : tie.Need-array-borrow-prefix-trial
+array-borrow-prefix-trial c = lent-fits _ 4096 (c .before .row-room .result) (c .before .row-room .ensures) (width-fits (c .before .before .before .before .before .before .before .before .before .before))
 
 slice-aggregate-run-restart : tie.Need-slice-aggregate-run-restart
-slice-aggregate-run-restart c = let z = c .before .before .before .before .before .before .before .before .before .before .before .before .before .before .before in let s = spaces-in (z .pre .0) in sym (part-lent s (z .args .trial-labels .now) (s .trial-cells))
-
-slice-relend-prefix-run-restart-2 : tie.Need-slice-relend-prefix-run-restart-2
-slice-relend-prefix-run-restart-2 c = let z = c .before .before .before .before .before .before .before .before .before .before .before .before .before .before .before in let s = spaces-in (z .pre .0) in part-fits s (z .args .distances .now) (s .distance-cells)
-
-slice-aggregate-run-restart-2 : tie.Need-slice-aggregate-run-restart-2
-slice-aggregate-run-restart-2 c = let z = c .before .before .before .before .before .before .before .before .before .before .before .before .before .before .before .before in let s = spaces-in (z .pre .0) in sym (part-lent s (z .args .distances .now) (s .distance-cells))
+slice-aggregate-run-restart c = sym (trial-lent c)
 
 run-restart-requires : tie.Need-run-restart-requires
 run-restart-requires c κs =
-    let z = c .before .before .before .before .before .before .before .before .before .before .before .before .before .before .before .before in
-    let s = spaces-in (z .pre .0) in
-    rw (part-lent s (z .args .trial-labels .now) (s .trial-cells), part-lent s (z .args .distances .now) (s .distance-cells)) (room-out (trained s _ _ (z .pre .1 .0 .0) (z .pre .1 .0 .1)), (z .pre .1 .1 .0 .1, (z .pre .1 .1 .1, (s .place-cells, s .enough))))
+    let z = c .before .before .before .before .before .before .before .before .before .before .before in
+    let s = z .pre .0 in
+    rw (trial-lent c, ← s .trainable .centroid-cells) ((s .trainable, s .enough), z .pre .1)
 
--- the slices with the parts lent back in front
-labels-back : (c : tie.After-run-restart) → let a = c .before .before .before .before .before .before .before .before .before .before .before .before .before .before .before .before .before .args in length (c .run-restart .last .1 .1 .1 .1 .1 .1 .1 .1 .1 .1 .0 ++ drop (length (a .training-own .now)) (a .trial-labels .now)) ≡ length (a .labels .now)
-labels-back c =
-    let z = c .before .before .before .before .before .before .before .before .before .before .before .before .before .before .before .before .before in
-    let s = spaces-in (z .pre .0) in
-    part-back s (z .args .trial-labels .now) (s .trial-cells) (c .run-restart .last .1 .1 .1 .1 .1 .1 .1 .1 .1 .1 .0) (c .run-restart .kept .1 .1 .1 .1 .1 .1 .1 .1 .1 .1 .0)
+array-share-prefix-trial : tie.Need-array-share-prefix-trial
+array-share-prefix-trial c = trial-held (c .before) .fits
 
-distances-back : (c : tie.After-run-restart) → let a = c .before .before .before .before .before .before .before .before .before .before .before .before .before .before .before .before .before .args in length (c .run-restart .last .1 .1 .1 .1 .1 .1 .1 .1 .1 .1 .1 .0 ++ drop (length (a .training-own .now)) (a .distances .now)) ≡ length (a .labels .now)
-distances-back c =
-    let z = c .before .before .before .before .before .before .before .before .before .before .before .before .before .before .before .before .before in
-    let s = spaces-in (z .pre .0) in
-    part-back s (z .args .distances .now) (s .distance-cells) (c .run-restart .last .1 .1 .1 .1 .1 .1 .1 .1 .1 .1 .1 .0) (c .run-restart .kept .1 .1 .1 .1 .1 .1 .1 .1 .1 .1 .1 .0)
+slice-aggregate-finish-restart : tie.Need-slice-aggregate-finish-restart
+slice-aggregate-finish-restart c = sym (trial-held (c .before .before) .long)
+
+array-borrow-prefix-trial-labels : tie.Need-array-borrow-prefix-trial-labels
+array-borrow-prefix-trial-labels c = lent-fits _ 4096 (c .before .before .before .before .cell-room .result) (c .before .before .before .before .cell-room .ensures) (c .before .before .before .before .before .before .before .before .before .before .before .before .before .before .pre .0 .few-labels)
+
+slice-aggregate-finish-restart-2 : tie.Need-slice-aggregate-finish-restart-2
+slice-aggregate-finish-restart-2 c = sym (labels-lent c)
 
 finish-restart-requires : tie.Need-finish-restart-requires
 finish-restart-requires c κs =
-    let z = c .before .before .before .before .before .before .before .before .before .before .before .before .before .before .before .before .before .before .before .before .before .before .before .before .before .before .before .before in
-    let s = spaces-in (z .pre .0) in
-    rw (labels-back (c .before .before .before .before .before .before .before .before .before .before .before), distances-back (c .before .before .before .before .before .before .before .before .before .before .before)) (
-      (
-        (s .some-dim, (s .small-dim, s .few)),
-        (s .value-cells, (c .before .before .before .before .before .before .before .before .before .before .before .run-restart .kept .1 .1 .1 .1 .1 .1 .1 .1 .1 .0 ∙ z .pre .1 .0 .1, (refl, z .pre .1 .1 .0 .0))),
-      ),
-      s .some,
-    )
+    let s = c .before .before .before .before .before .before .before .before .before .before .before .before .before .before .before .pre .0 in
+    rw (labels-lent c) (s .trainable .planned, (s .value-cells, (s .few-labels, trial-held (c .before .before .before) .long)))
+
+array-share-prefix-trial-labels : tie.Need-array-share-prefix-trial-labels
+array-share-prefix-trial-labels c = labels-held (c .before .before .before .before) .fits
+
+slice-aggregate-copy-cells : tie.Need-slice-aggregate-copy-cells
+slice-aggregate-copy-cells c = sym (labels-held (c .before .before .before .before .before) .long)
 
 copy-cells-requires : tie.Need-copy-cells-requires
-copy-cells-requires c κs = sym (c .before .before .before .before .before .before .before .before .finish-restart .kept .1 .1 .1 .1 .1 .0 ∙ labels-back (c .before .before .before .before .before .before .before .before .before .before .before .before .before .before .before .before .before .before .before .before))
+copy-cells-requires c κs = sym (labels-held (c .before .before .before .before .before) .long)
+
+array-share-prefix-trial-2 : tie.Need-array-share-prefix-trial-2
+array-share-prefix-trial-2 c = trial-held (c .before .before .before .before .before .before .before .before .before .before .before .before .before) .fits
+
+slice-aggregate-copy : tie.Need-slice-aggregate-copy
+slice-aggregate-copy c = sym (trial-held (c .before .before .before .before .before .before .before .before .before .before .before .before .before .before) .long)
 
 copy-requires : tie.Need-copy-requires
-copy-requires c κs =
-    let z = c .before .before .before .before .before .before .before .before .before .before .before .before .before .before .before .before .before .before .before .before .before .before .before .before .before .before .before .before .before .before .before .before .before .before .before .before .before .before .before .before .before .before in
-    (spaces-in (z .pre .0)) .centroid-cells ∙ sym (c .before .before .before .before .before .before .before .before .before .before .before .before .before .before .before .before .before .before .before .before .before .before .before .before .before .run-restart .kept .1 .1 .1 .1 .1 .1 .1 .1 .1 .0 ∙ z .pre .1 .0 .1)
+copy-requires c κs = c .before .before .before .before .before .before .before .before .before .before .before .before .before .before .before .before .before .before .before .before .before .before .before .before .before .before .pre .0 .trainable .centroid-cells ∙ sym (trial-held (c .before .before .before .before .before .before .before .before .before .before .before .before .before .before) .long)
 
 same-length : tie.Need-same-length
 same-length c = c .before .before .before .before .before .before .before .copy-cells .kept .0
@@ -71,64 +97,36 @@ same-length c = c .before .before .before .before .before .before .before .copy-
 same-length-2 : tie.Need-same-length-2
 same-length-2 c = c .before .before .copy .kept .0
 
-same-length-3 : tie.Need-same-length-3
-same-length-3 c = search needs
-
-same-length-4 : tie.Need-same-length-4
-same-length-4 c = search needs
-
-same-length-5 : tie.Need-same-length-5
-same-length-5 c = c .before .before .before .before .before .before .before .before .before .before .before .before .before .before .before .before .before .before .before .before .before .before .before .before .before .before .before .before .run-restart .kept .1 .1 .1 .1 .1 .1 .1 .1 .0
-
-same-length-6 : tie.Need-same-length-6
-same-length-6 c = c .before .before .before .before .before .before .before .before .before .before .before .before .before .before .before .before .before .before .before .before .before .before .before .before .before .before .before .before .run-restart .kept .1 .1 .1 .1 .1 .1 .1 .1 .1 .0
-
 returns : tie.Need-returns
 returns c =
-    let z = c .before .before .before .before .before .before .before .before .before .before .before .before .before .before .before .before .before .before .before .before .before .before .before .before .before .before .before .before .before .before .before .before .before .before .before .before .before .before .before .before .before .before .before .before .before in
-    let s = spaces-in (z .pre .0) in
-    rw (c .before .before .before .before .before .before .before .copy-cells .ensures, c .before .before .copy .ensures)
-    (tried-better _ _ _ _ _ _ _ _ (z .args .best) _ _ _ _ _ _ (rw (part-lent s (z .args .trial-labels .now) (s .trial-cells)) at (c .before .before .before .before .before .before .before .before .before .before .before .before .before .before .before .before .before .before .before .before .before .before .before .before .before .before .before .before .run-restart .ensures)) (rw (labels-back (c .before .before .before .before .before .before .before .before .before .before .before .before .before .before .before .before .before .before .before .before .before .before .before .before .before .before .before .before)) at (c .before .before .before .before .before .before .before .before .before .before .before .before .before .before .before .before .finish-restart .ensures)) (c .before .before .before .before .before .before .before .before .before .before .if1 .taken))
-
-same-length-7 : tie.Need-same-length-7
-same-length-7 c = search needs
-
-same-length-8 : tie.Need-same-length-8
-same-length-8 c = search needs
-
-same-length-9 : tie.Need-same-length-9
-same-length-9 c = c .before .before .before .before .before .before .before .before .before .before .before .before .before .before .before .before .before .before .run-restart .kept .1 .1 .1 .1 .1 .1 .1 .1 .0
-
-same-length-10 : tie.Need-same-length-10
-same-length-10 c = c .before .before .before .before .before .before .before .before .before .before .before .before .before .before .before .before .before .before .run-restart .kept .1 .1 .1 .1 .1 .1 .1 .1 .1 .0
+    rw (c .before .before .before .before .before .before .before .copy-cells .ensures ∙ labels-held (c .before .before .before .before .before .before .before .before .before .before .before .before .before) .is, c .before .before .copy .ensures ∙ trial-held (c .before .before .before .before .before .before .before .before .before .before .before .before .before .before .before .before .before) .is)
+    (tried-better _ _ _ _ _ (c .before .before .before .before .before .before .before .before .before .before .before .before .before .before .before .before .before .before .before .before .before .before .before .before .before .before .before .before .before .args .best) _ _ _ _ _ _ (c .before .before .before .before .before .before .before .before .before .before .before .before .before .before .before .before .before .run-restart .ensures) (finished (c .before .before .before .before .before .before .before .before .before .before .before .before .before)) (c .before .before .before .before .before .before .before .before .before .before .if1 .taken))
 
 returns-2 : tie.Need-returns-2
-returns-2 c =
-    let z = c .before .before .before .before .before .before .before .before .before .before .before .before .before .before .before .before .before .before .before .before .before .before .before .before .before .before .before .before .before .before .before .before .before .before .before in
-    let s = spaces-in (z .pre .0) in
-    tried-kept _ _ _ _ _ _ _ _ (z .args .best) _ _ _ _ _ _ (rw (part-lent s (z .args .trial-labels .now) (s .trial-cells)) at (c .before .before .before .before .before .before .before .before .before .before .before .before .before .before .before .before .before .before .run-restart .ensures)) (rw (labels-back (c .before .before .before .before .before .before .before .before .before .before .before .before .before .before .before .before .before .before)) at (c .before .before .before .before .before .before .finish-restart .ensures)) (c .if1 .left)
+returns-2 c = tried-kept _ _ _ _ _ (c .before .before .before .before .before .before .before .before .before .before .before .before .before .before .before .before .before .before .before .args .best) _ _ _ _ _ _ (c .before .before .before .before .before .before .before .run-restart .ensures) (finished (c .before .before .before)) (c .if1 .left)
 
 pub try-restart-spec : {M : Type 1} → statement M
 try-restart-spec =
     tie.close
     (tie.spec
-    slice-relend-prefix-run-restart
+    mul-width
+    row-room-requires
+    cell-room-requires
+    array-borrow-prefix-trial
     slice-aggregate-run-restart
-    slice-relend-prefix-run-restart-2
-    slice-aggregate-run-restart-2
     run-restart-requires
+    array-share-prefix-trial
+    slice-aggregate-finish-restart
+    array-borrow-prefix-trial-labels
+    slice-aggregate-finish-restart-2
     finish-restart-requires
+    array-share-prefix-trial-labels
+    slice-aggregate-copy-cells
     copy-cells-requires
+    array-share-prefix-trial-2
+    slice-aggregate-copy
     copy-requires
     same-length
     same-length-2
-    same-length-3
-    same-length-4
-    same-length-5
-    same-length-6
     returns
-    same-length-7
-    same-length-8
-    same-length-9
-    same-length-10
     returns-2)

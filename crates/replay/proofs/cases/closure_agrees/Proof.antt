@@ -1,6 +1,6 @@
 use mathlib.Core.Path.{refl}
 use lib.ListN.{length}
-use Rattle.bench.specs.Exports.{closureWritten}
+use Rattle.exports.specs.Exports.{closureWritten}
 use Rattle.words.specs.Bytes.{u32At}
 use Rattle.replay.specs.Replay.{closureAgrees}
 use Rattle.replay.proofs.Agreeing.{bytes-agreed}

@@ -3,14 +3,10 @@ use borrow.Author.Needs.{needs}
 use native.Mathlib.Omega.{arith}
 use Rattle.sums.proofs.checks.within.Statement.{statement}
 use Rattle.sums.proofs.checks.within.Tie as tie
-use Rattle.sums.proofs.checks.within.Reads as reads
-use Rattle.sums.proofs.checks.within.Lts as lts
 
--- src/checks.rt
 returns : tie.Need-returns
 returns c = rw (lt-leb _ _ (c .if1 .taken))
 
--- src/checks.rt
 returns-2 : tie.Need-returns-2
 returns-2 c = rw (le-leb _ _ (c .if1 .left))
 

@@ -25,8 +25,8 @@ loop-holds c =
 draw-requires : tie.Need-draw-requires Inv-loop μ-loop
 draw-requires c κs = search needs
 
-wide-requires : tie.Need-wide-requires Inv-loop μ-loop
-wide-requires c κs = search needs
+index-requires : tie.Need-index-requires Inv-loop μ-loop
+index-requires c κs = search needs
 
 sub-j : tie.Need-sub-j Inv-loop μ-loop
 sub-j c = search needs
@@ -35,13 +35,13 @@ rem-j : tie.Need-rem-j Inv-loop μ-loop
 rem-j c = search needs
 
 -- the other place lies inside
-inside : (c : tie.After-wide Inv-loop μ-loop)
-    → c .before .before .before .loop .i + c .wide .result % (length (c .before .before .before .before .before .before .count-up .last .0) - c .before .before .before .loop .i)
+inside : (c : tie.After-index Inv-loop μ-loop)
+    → c .before .before .before .loop .i + c .index .result % (length (c .before .before .before .before .before .before .count-up .last .0) - c .before .before .before .loop .i)
     < length (c .before .before .before .before .before .before .count-up .last .0)
 inside c =
     let k = c .before .before .before in
     let z = k .before .before .before .before .before .before .before in
-    picking-room (k .loop .inv .1) (c .before .before .loop-test .taken) (omega (arith, z .pre, k .before .before .before .count-up .kept)) _ (c .wide .result) refl
+    picking-room (k .loop .inv .1) (c .before .before .loop-test .taken) (omega (arith, z .pre, k .before .before .before .count-up .kept)) _ (c .index .result) refl
 
 add-j : tie.Need-add-j Inv-loop μ-loop
 add-j c = omega (arith, inside c)
@@ -81,7 +81,7 @@ unfolding exchange
 loop-again c =
     let k = c .before .before .before .before .before .before in
     let z = k .before .before .before .before .before .before .before in
-    (refl, picking-step (k .loop .inv .1) (c .before .before .before .before .before .loop-test .taken) (omega (arith, z .pre, k .before .before .before .count-up .kept)) _ (c .before .before .before .wide .result) refl (c .before .before .before .before .draw .result) (c .before .before .before .wide .ensures) (c .before .before .before .before .draw .ensures))
+    (refl, picking-step (k .loop .inv .1) (c .before .before .before .before .before .loop-test .taken) (omega (arith, z .pre, k .before .before .before .count-up .kept)) _ (c .before .before .before .index .result) refl (c .before .before .before .before .draw .result) (c .before .before .before .index .ensures .0) (c .before .before .before .before .draw .ensures))
 
 same-length : tie.Need-same-length Inv-loop μ-loop
 same-length c = search needs
@@ -101,7 +101,7 @@ pick-spec =
     count-up-requires
     loop-holds
     draw-requires
-    wide-requires
+    index-requires
     sub-j
     rem-j
     add-j

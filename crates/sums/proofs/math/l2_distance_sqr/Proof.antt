@@ -8,8 +8,6 @@ use borrow.Author.Needs.{needs}
 use native.Mathlib.Omega.{arith}
 use Rattle.sums.proofs.math.l2_distance_sqr.Statement.{statement}
 use Rattle.sums.proofs.math.l2_distance_sqr.Tie as tie
-use Rattle.sums.proofs.math.l2_distance_sqr.Reads as reads
-use Rattle.sums.proofs.math.l2_distance_sqr.Lts as lts
 
 abbrev Inv-loop : tie.InvT-loop
 Inv-loop a b sum₀ i₀ sum i = (i ≤ length a) × (sumFrom binary32 square sum (drop i a) (drop i b) ≡ apartOf a b)
@@ -17,43 +15,34 @@ Inv-loop a b sum₀ i₀ sum i = (i ≤ length a) × (sumFrom binary32 square su
 abbrev μ-loop : tie.MeasureT-loop
 μ-loop a b sum₀ i₀ sum i = length a - i
 
--- src/math.rt:37:5
 loop-holds : tie.Need-loop-holds Inv-loop μ-loop
 unfolding ofBits apartOf
 loop-holds c = (search needs, refl)
 
--- src/math.rt:38:19
 mul-gap : tie.Need-mul-gap Inv-loop μ-loop
 mul-gap c = search needs
 
--- src/math.rt:38:19
 shared-slice-read-gap : tie.Need-shared-slice-read-gap Inv-loop μ-loop
 shared-slice-read-gap c = search needs
 
--- src/math.rt:38:26
 mul-gap-2 : tie.Need-mul-gap-2 Inv-loop μ-loop
 mul-gap-2 c = search needs
 
--- src/math.rt:38:26
 shared-slice-read-gap-2 : tie.Need-shared-slice-read-gap-2 Inv-loop μ-loop
 shared-slice-read-gap-2 c = search needs
 
--- src/math.rt:40:9
 add-i : tie.Need-add-i Inv-loop μ-loop
 add-i c = search needs
 
--- src/math.rt:37:5
 loop-less : tie.Need-loop-less Inv-loop μ-loop
 loop-less c = search needs
 
--- src/math.rt:37:5
 loop-again : tie.Need-loop-again Inv-loop μ-loop
 loop-again c =
     let k = c .before .before .before in
     let a = k .before .args in
     (search needs, sum-step binary32 square _ _ (a .a .now) (a .b .now) (k .loop .i) (omega arith) (omega arith) (k .loop .inv .1))
 
--- src/math.rt:31:1
 returns : tie.Need-returns Inv-loop μ-loop
 returns c =
     let k = c .before in

@@ -8,8 +8,6 @@ use borrow.Author.Needs.{needs}
 use native.Mathlib.Omega.{arith}
 use Rattle.sums.proofs.math.norm.Statement.{statement}
 use Rattle.sums.proofs.math.norm.Tie as tie
-use Rattle.sums.proofs.math.norm.Reads as reads
-use Rattle.sums.proofs.math.norm.Lts as lts
 
 abbrev Inv-loop : tie.InvT-loop
 Inv-loop v sum₀ i₀ sum i = (i ≤ length v) × (sumFrom binary32 product sum (drop i v) (drop i v) ≡ normOf v)
@@ -17,43 +15,34 @@ Inv-loop v sum₀ i₀ sum i = (i ≤ length v) × (sumFrom binary32 product sum
 abbrev μ-loop : tie.MeasureT-loop
 μ-loop v sum₀ i₀ sum i = length v - i
 
--- src/math.rt:11:5
 loop-holds : tie.Need-loop-holds Inv-loop μ-loop
 unfolding ofBits normOf
 loop-holds c = (search needs, refl)
 
--- src/math.rt:12:21
 mul-sum : tie.Need-mul-sum Inv-loop μ-loop
 mul-sum c = search needs
 
--- src/math.rt:12:21
 shared-slice-read-sum : tie.Need-shared-slice-read-sum Inv-loop μ-loop
 shared-slice-read-sum c = search needs
 
--- src/math.rt:12:28
 mul-sum-2 : tie.Need-mul-sum-2 Inv-loop μ-loop
 mul-sum-2 c = search needs
 
--- src/math.rt:12:28
 shared-slice-read-sum-2 : tie.Need-shared-slice-read-sum-2 Inv-loop μ-loop
 shared-slice-read-sum-2 c = search needs
 
--- src/math.rt:13:9
 add-i : tie.Need-add-i Inv-loop μ-loop
 add-i c = search needs
 
--- src/math.rt:11:5
 loop-less : tie.Need-loop-less Inv-loop μ-loop
 loop-less c = search needs
 
--- src/math.rt:11:5
 loop-again : tie.Need-loop-again Inv-loop μ-loop
 loop-again c =
     let k = c .before .before .before in
     let a = k .before .args in
     (search needs, sum-step binary32 product _ _ (a .v .now) (a .v .now) (k .loop .i) (omega arith) (omega arith) (k .loop .inv .1))
 
--- src/math.rt:6:1
 returns : tie.Need-returns Inv-loop μ-loop
 returns c =
     let k = c .before in

@@ -8,9 +8,6 @@ use borrow.Author.Needs.{needs}
 use native.Mathlib.Omega.{arith}
 use Rattle.sums.proofs.math.spread.Statement.{statement}
 use Rattle.sums.proofs.math.spread.Tie as tie
-use Rattle.sums.proofs.math.spread.Reads as reads
-use Rattle.sums.proofs.math.spread.Lts as lts
-use Rattle.std.proofs.num.f32_to_f64_with_nan.Reads as f32-to-f64-with-nan-reads
 
 abbrev Inv-loop : tie.InvT-loop
 Inv-loop point centroid sum₀ i₀ sum i = (i ≤ length point) × (sumFrom binary64 wideSquare sum (drop i point) (drop i centroid) ≡ spreadOf point centroid)
@@ -18,49 +15,39 @@ Inv-loop point centroid sum₀ i₀ sum i = (i ≤ length point) × (sumFrom bin
 abbrev μ-loop : tie.MeasureT-loop
 μ-loop point centroid sum₀ i₀ sum i = length point - i
 
--- src/math.rt:52:5
 loop-holds : tie.Need-loop-holds Inv-loop μ-loop
 unfolding ofBits spreadOf
 loop-holds c = (search needs, refl)
 
--- src/math.rt:53:49
 mul-f32-to-f64-with-nan : tie.Need-mul-f32-to-f64-with-nan Inv-loop μ-loop
 mul-f32-to-f64-with-nan c = search needs
 
--- src/math.rt:53:49
 shared-slice-read-f32-to-f64-with-nan :
     tie.Need-shared-slice-read-f32-to-f64-with-nan Inv-loop μ-loop
 shared-slice-read-f32-to-f64-with-nan c = search needs
 
--- src/math.rt:53:60
 mul-f32-to-f64-with-nan-2 : tie.Need-mul-f32-to-f64-with-nan-2 Inv-loop μ-loop
 mul-f32-to-f64-with-nan-2 c = search needs
 
--- src/math.rt:53:60
 shared-slice-read-f32-to-f64-with-nan-2 :
     tie.Need-shared-slice-read-f32-to-f64-with-nan-2 Inv-loop μ-loop
 shared-slice-read-f32-to-f64-with-nan-2 c = search needs
 
--- src/math.rt:53:13
 f32-to-f64-with-nan-requires : tie.Need-f32-to-f64-with-nan-requires Inv-loop μ-loop
 f32-to-f64-with-nan-requires c κs = search needs
 
--- src/math.rt:55:9
 add-i : tie.Need-add-i Inv-loop μ-loop
 add-i c = search needs
 
--- src/math.rt:52:5
 loop-less : tie.Need-loop-less Inv-loop μ-loop
 loop-less c = search needs
 
--- src/math.rt:52:5
 loop-again : tie.Need-loop-again Inv-loop μ-loop
 loop-again c =
     let k = c .before .before .before .before in
     let a = k .before .before .before .args in
     (search needs, rw (c .f32-to-f64-with-nan .ensures) (sum-step binary64 wideSquare _ _ (a .point .now) (a .centroid .now) (k .loop .i) (omega arith) (omega arith) (k .loop .inv .1)))
 
--- src/math.rt:46:1
 returns : tie.Need-returns Inv-loop μ-loop
 returns c =
     let k = c .before in

@@ -1,6 +1,5 @@
-use Rattle.sums.specs.Draws.{cursorAt}
+use Rattle.sums.specs.Draws.{cursorAt, drawn}
 use Rattle.sums.proofs.Picks.{ring-on, ring-round}
-use Rattle.sums.specs.Draws.{drawn}
 use Rattle.sums.specs.declared.draws.Cursor.{Cursor}
 use lib.ListN.{length, getD}
 use native.Mathlib.Numerals.{add-one}

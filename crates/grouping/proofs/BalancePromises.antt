@@ -1,0 +1,109 @@
+-- What balancing promises of every part, and that no row is lost or doubled. Assumes nothing.
+use mathlib.Core.Path.{_≡_, refl}
+use mathlib.Core.List.{List, [], _∷_}
+use mathlib.Core.Bool.{true, false}
+use Prim.Native.Nat.{ℕ, zero, suc, _≤_, _<_, min}
+use native.Mathlib.Nat.{div-le-self}
+use native.Mathlib.Omega.{arith}
+use lib.Dec.{eqb}
+use lib.IntN.{negsuc}
+use lib.ListN.{length, getD}
+use lib.Ieee.{Float, fin, lt, add, mul, ofInt, toUnsigned}
+use Rattle.sums.specs.Tables.{upTo}
+use Rattle.sums.specs.Rows.{Row}
+use Rattle.sums.specs.Sums.{zero32, one32, apartOf, sumFrom}
+use Rattle.sums.specs.Cells.{Below}
+use Rattle.sums.proofs.Tables.{length-tab}
+use Rattle.sums.proofs.Weighs.{one, countOf, Same}
+use Rattle.grouping.specs.Parts.{having, gathered, sizesOf, flat}
+use Rattle.grouping.specs.Balance.{share, allowed, seek, closestFrom, closestOf, toward, balanced, moves, balance}
+use Rattle.grouping.proofs.Rounds.{Balanced}
+use Rattle.grouping.proofs.Gathers.{gathered-weigh}
+use Rattle.grouping.proofs.Nearest.{toward-in}
+use Rattle.grouping.proofs.Allowances.{share-allowed}
+use Rattle.grouping.proofs.Fair.{overBy, shortBy, balanced-fair, balanced-length, balanced-same, moves-exactly}
+
+-- What is promised of the parts before and after, and of how many rows moved.
+pub record Promise (share most : ℕ) (old new : List (List ℕ)) (moved : ℕ) : Type 0 where
+  -- a part under the share loses no row, and ends no higher than the share
+  pub under : (i : ℕ) → length (getD old i []) < share
+      → ((x : ℕ) → countOf x (getD old i []) ≤ countOf x (getD new i [])) × (length (getD new i []) ≤ share)
+  -- a part over the allowance gains no row, and ends no lower than the allowance
+  pub over : (i : ℕ) → most < length (getD old i [])
+      → ((x : ℕ) → countOf x (getD new i []) ≤ countOf x (getD old i [])) × (most ≤ length (getD new i []))
+  -- every other part keeps its rows, in their order
+  pub rest : (i : ℕ) → share ≤ length (getD old i []) → length (getD old i []) ≤ most → getD new i [] ≡ getD old i []
+  -- exactly so many rows move: ten, or all that the parts have over the allowance, or all that they lack to the share, whichever is least
+  pub count : moved ≡ min 10 (min (overBy most (sizesOf old)) (shortBy share (sizesOf old)))
+  -- no row is lost, doubled or made up
+  pub rows : Same (flat new) (flat old)
+  -- there are as many parts as before
+  pub parts : length new ≡ length old
+
+-- Balancing keeps the promise, whichever row of a part it moves, where the share is at most the allowance.
+pub balanced-promise : (which : ℕ → List ℕ → ℕ) → ((r : ℕ) (part : List ℕ) → 0 < length part → which r part < length part) → (share most : ℕ) → share ≤ most
+    → (parts : List (List ℕ)) → Promise share most parts (balanced which share most 10 parts) (moves which share most 10 parts)
+balanced-promise which inside share most fair parts =
+    record {
+      under = λ i h. let f = balanced-fair which inside share most fair 10 parts i .low (omega arith) in ((λ x. f .2 (λ y. one (eqb y x))), f .1);
+      over = λ i h. let f = balanced-fair which inside share most fair 10 parts i .high (omega arith) in ((λ x. f .2 (λ y. one (eqb y x))), f .0);
+      rest = λ i h k. balanced-fair which inside share most fair 10 parts i .rest h k;
+      count = moves-exactly which inside share most fair 10 parts;
+      rows = balanced-same which inside share most fair 10 parts;
+      parts = balanced-length which inside share most fair 10 parts;
+    }
+
+-- The share is at most the allowance, for every weight above zero.
+pub allowed-least : (share : ℕ) (weight : Float) → share ≤ 4096 → lt zero32 weight ≡ true → share ≤ allowed share weight
+allowed-least zero weight few above = omega arith
+allowed-least (suc n) weight few above = share-allowed (suc n) weight (omega arith) few above .1
+
+-- Balancing toward the receiver's centroid, with the allowance that the weight gives, keeps the promise.
+pub balance-promise : (rows centroids : List Row) (share : ℕ) (weight : Float) (parts : List (List ℕ)) → share ≤ 4096 → lt zero32 weight ≡ true
+    → Promise share (allowed share weight) parts (balance rows centroids share weight parts) (moves (toward rows centroids) share (allowed share weight) 10 parts)
+balance-promise rows centroids share weight parts few above =
+    balanced-promise (toward rows centroids) (toward-in rows centroids) share (allowed share weight) (allowed-least share weight few above) parts
+
+-- So does the code: `moved` is what `balance_clusters` gives back for a stretch of n rows in k parts, and the parts are those that it leaves in its slices.
+pub clusters-promise : (rows centroids : List Row) (n k : ℕ) (weight : Float) (parts : List (List ℕ)) {part sizes : List ℕ} {moved : ℕ}
+    → n ≤ 4096 → lt zero32 weight ≡ true → Balanced rows centroids (share n k) weight parts part sizes moved
+    → Promise (share n k) (allowed (share n k) weight) parts (balance rows centroids (share n k) weight parts) moved
+clusters-promise rows centroids n k weight parts few above b =
+    rw (b .1) (balance-promise rows centroids (share n k) weight parts (omega (arith, div-le-self n k)) above)
+
+-- Rows gathered by labels that are all below k: no row is lost, doubled or made up.
+pub gathered-same : (k : ℕ) (rows labels : List ℕ) → length rows ≡ length labels → Below k labels → Same (flat (gathered k rows labels)) rows
+gathered-same k rows labels e h f = gathered-weigh f k rows labels e h
+
+-- They are k parts.
+pub gathered-parts : (k : ℕ) (rows labels : List ℕ) → length (gathered k rows labels) ≡ k
+gathered-parts k rows labels = length-tab (λ c. having c rows labels) k
+
+-- P3: sizes 40 and 0, weight 0.25: the allowance is 25, ten rows move, and the sizes are 30 and 10.
+abbrev quarter : Float
+quarter = fin false 1 (negsuc 1)
+
+p3-allowance : allowed 20 quarter ≡ 25
+unfolding allowed toUnsigned ofInt mul add
+p3-allowance = refl
+
+p3-sizes : sizesOf (balance [] [] 20 quarter (upTo 40 ∷ [] ∷ [])) ≡ 30 ∷ 10 ∷ []
+unfolding balanced seek closestOf closestFrom apartOf sumFrom allowed toUnsigned ofInt mul add lt
+p3-sizes = refl
+
+p3-moves : moves (toward [] []) 20 (allowed 20 quarter) 10 (upTo 40 ∷ [] ∷ []) ≡ 10
+unfolding moves seek closestOf closestFrom apartOf sumFrom allowed toUnsigned ofInt mul add lt
+p3-moves = refl
+
+-- P4: sizes 30, 0 and 0, weight 1: the allowance is 20, ten rows move, and the sizes are 20, 10 and 0.
+p4-allowance : allowed 10 one32 ≡ 20
+unfolding allowed toUnsigned ofInt mul add
+p4-allowance = refl
+
+p4-sizes : sizesOf (balance [] [] 10 one32 (upTo 30 ∷ [] ∷ [] ∷ [])) ≡ 20 ∷ 10 ∷ 0 ∷ []
+unfolding balanced seek closestOf closestFrom apartOf sumFrom allowed toUnsigned ofInt mul add lt
+p4-sizes = refl
+
+p4-moves : moves (toward [] []) 10 (allowed 10 one32) 10 (upTo 30 ∷ [] ∷ [] ∷ []) ≡ 10
+unfolding moves seek closestOf closestFrom apartOf sumFrom allowed toUnsigned ofInt mul add lt
+p4-moves = refl

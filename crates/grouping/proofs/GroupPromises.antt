@@ -1,0 +1,371 @@
+-- What a grouping promises, whatever a split makes of a group: rows, group sizes and ends, when each refusal comes, what a budget can change.
+-- Assumes nothing.
+use mathlib.Core.Path.{_≡_, refl, sym, ap, _∙_}
+use mathlib.Core.Logic.{_⊎_, inl, inr}
+use mathlib.Core.Bool.{Bool, true, false}
+use mathlib.Core.List.{List, [], _∷_, flatten, append-nil}
+use Prim.Native.Nat.{ℕ, zero, suc, _+_, _-_, _*_, _/_, _≤_, _<_}
+use native.Mathlib.Nat.{suc-mul, div-lt-iff-lt-mul}
+use native.Mathlib.Omega.{arith}
+use borrow.Author.Tests.{eqb-true, eqb-false}
+use lib.Dec.{eqb}
+use lib.ListN.{length, getD, take, length-append}
+use lib.Seq.{take-suc, take-all}
+use Rattle.sums.specs.Tables.{upTo}
+use Rattle.sums.specs.Refusals.{Answer, accepted, refused, onAccepted}
+use Rattle.sums.proofs.Tables.{up-length}
+use Rattle.sums.proofs.Weighs.{weigh, one, countOf, Same, weigh-append, same-length, same-count}
+use Rattle.sums.proofs.Picks.{below-up}
+use Rattle.sums.proofs.Counts.{count-below}
+use Rattle.sums.proofs.Pairs.{All, all-weaken}
+use Rattle.grouping.specs.Parts.{flat}
+use Rattle.grouping.specs.Groups.{Groups, waits, pushed, after, groupFrom, endsFrom}
+use Rattle.grouping.proofs.Stretches.{flatten-snoc, end-is}
+use Rattle.grouping.proofs.Steps.{Full, full-pushed, full-count, flatten-pushed, group-end, group-list, group-six, group-seven, group-split, group-all}
+
+-- ---- what is promised
+
+-- a group has at least one row and at most as many as the limit
+abbrev pub Sized : ℕ → List ℕ → Type 0
+Sized limit g = (0 < length g) × (length g ≤ limit)
+
+-- Of the groups listed for the rows given.
+pub record Families (limit : ℕ) (rows : List ℕ) (groups : List (List ℕ)) : Type 0 where
+  -- they hold the same rows, none lost, doubled or made up
+  pub same : Same (flatten groups) rows
+  -- each has from one row to the limit
+  pub sized : All (Sized limit) groups
+
+-- Of a grouping of n rows that is accepted.
+pub record Listing (limit n : ℕ) (groups : List (List ℕ)) : Type 0 where
+  -- each row number stands exactly once
+  pub once : (x : ℕ) → x < n → countOf x (flatten groups) ≡ 1
+  -- and nothing else stands there
+  pub all : length (flatten groups) ≡ n
+  -- each group has from one row to the limit
+  pub sized : All (Sized limit) groups
+  -- group end i is how many rows the first i + 1 groups have together
+  pub ends : (i : ℕ) → i < length groups → getD (endsFrom 0 groups) i 0 ≡ length (flatten (take (suc i) groups))
+  -- the last group end is the number of rows
+  pub last : 0 < n → getD (endsFrom 0 groups) (length groups - 1) 0 ≡ n
+  -- there are at most as many groups as rows, and at least rows div limit, rounded up
+  pub most : length groups ≤ n
+  pub least : 0 < limit → (n + (limit - 1)) / limit ≤ length groups
+
+-- An answer that is no refusal.
+abbrev pub Passes : Answer Groups → Type 0
+Passes (accepted g) = Unit {0}
+Passes (refused number) = ⊥
+
+-- ---- the rows that wait first, and the group ends
+count-once : (x n : ℕ) → x < n → countOf x (upTo n) ≡ 1
+count-once x zero h = absurd (omega arith)
+count-once x (suc n) h = go (eqb n x) refl (count-once x n)
+  where
+    both : countOf x (upTo (suc n)) ≡ countOf x (upTo n) + countOf x (n ∷ [])
+    both = weigh-append (λ y. one (eqb y x)) (upTo n) (n ∷ [])
+
+    go : (t : Bool) → eqb n x ≡ t → (x < n → countOf x (upTo n) ≡ 1) → countOf x (upTo (suc n)) ≡ 1
+    go true e ih = let z : countOf x (upTo n) ≡ 0 = count-below n x (upTo n) (below-up n) (omega (arith, eqb-true n x e)) in rw (both, z, e)
+    go false e ih = rw (both, e) (omega (arith, ih (omega (arith, eqb-false n x e))))
+
+one-full : (l : List ℕ) → All Full (waits l [])
+unfolding waits
+one-full [] = tt
+one-full (x ∷ l) = (omega arith, tt)
+
+pub one-flat : (l : List ℕ) → flatten (waits l []) ≡ l
+unfolding waits flatten
+one-flat [] = refl
+one-flat (x ∷ l) = append-nil (x ∷ l)
+
+end-total : (gs : List (List ℕ)) (i : ℕ) → i < length gs → getD (endsFrom 0 gs) i 0 ≡ length (flatten (take (suc i) gs))
+end-total gs i h =
+    end-is 0 gs i h
+    ∙ sym (rw (take-suc gs i [] h, flatten-snoc (take i gs) (getD gs i [])) (length-append (flatten (take i gs)) (getD gs i []) ∙ omega arith))
+
+pub some-group : (gs : List (List ℕ)) → 0 < length (flatten gs) → 0 < length gs
+unfolding flatten
+some-group [] h = h
+some-group (g ∷ gs) h = omega arith
+
+last-total : (gs : List (List ℕ)) → 0 < length (flatten gs) → getD (endsFrom 0 gs) (length gs - 1) 0 ≡ length (flatten gs)
+last-total gs h =
+    let s = some-group gs h in
+    end-total gs (length gs - 1) (omega arith) ∙ ap (λ (l : List (List ℕ)). length (flatten l)) (take-all (suc (length gs - 1)) gs (omega arith))
+
+rows-most : (limit : ℕ) (gs : List (List ℕ)) → All (Sized limit) gs → length (flatten gs) ≤ length gs * limit
+unfolding flatten
+rows-most limit [] h = omega arith
+rows-most limit (g ∷ gs) h = rw (length-append g (flatten gs), suc-mul (length gs) limit) (omega (arith, rows-most limit gs (h .1), h .0 .1))
+
+groups-least : (limit : ℕ) (gs : List (List ℕ)) → 0 < limit → All (Sized limit) gs → (length (flatten gs) + (limit - 1)) / limit ≤ length gs
+groups-least limit gs p h =
+    let q : (length (flatten gs) + (limit - 1)) / limit < suc (length gs)
+    = div-lt-iff-lt-mul p .1 (rw (suc-mul (length gs) limit) (omega (arith, rows-most limit gs h))) in
+    omega arith
+
+module _ (parts : ℕ → List ℕ → List (List ℕ)) (made : ℕ → List ℕ → ℕ) (limit branching : ℕ) where
+  -- The groups are taken one by one: from so many splits left, n draws made and these waiting, a grouping comes to others.
+  pub data Comes : ℕ → ℕ → List (List ℕ) → ℕ → ℕ → List (List ℕ) → Type 0 where
+    here : {left n : ℕ} {w : List (List ℕ)} → Comes left n w left n w
+    listing : {left n left′ n′ : ℕ} {g : List ℕ} {gs w : List (List ℕ)} → length g ≤ limit → Comes left n gs left′ n′ w → Comes left n (g ∷ gs) left′ n′ w
+    splitting : {left n left′ n′ : ℕ} {g : List ℕ} {gs w : List (List ℕ)} → limit < length g → branching ≤ length g
+        → Comes left (made n g) (pushed (parts n g) gs) left′ n′ w → Comes (suc left) n (g ∷ gs) left′ n′ w
+
+  -- it comes to a group taken that is oversize and has fewer rows than branching
+  pub record Small (left n : ℕ) (w : List (List ℕ)) : Type 0 where
+    pub left′ : ℕ
+    pub n′ : ℕ
+    pub g : List ℕ
+    pub gs : List (List ℕ)
+    pub comes : Comes left n w left′ n′ (g ∷ gs)
+    pub oversize : limit < length g
+    pub few : length g < branching
+
+  -- it comes to a group taken that is oversize and not such a one, when no split is left
+  pub record Spent (left n : ℕ) (w : List (List ℕ)) : Type 0 where
+    pub n′ : ℕ
+    pub g : List ℕ
+    pub gs : List (List ℕ)
+    pub comes : Comes left n w 0 n′ (g ∷ gs)
+    pub oversize : limit < length g
+    pub enough : branching ≤ length g
+
+  -- it comes to where none waits
+  pub record Done (left n : ℕ) (w : List (List ℕ)) : Type 0 where
+    pub left′ : ℕ
+    pub n′ : ℕ
+    pub comes : Comes left n w left′ n′ []
+
+  -- Accepted only where none waits at the end; refused only by 6 or 7, and for their reasons.
+  abbrev pub Ending : ℕ → ℕ → List (List ℕ) → Answer Groups → Type 0
+  Ending left n w (accepted g) = Done left n w
+  Ending left n w (refused number) = ((number ≡ 6) × Small left n w) ⊎ ((number ≡ 7) × Spent left n w)
+
+  -- What a budget can change: f gives the answer for each budget, and a is that for b. Accepted with s splits: the same from s on, and 7 below.
+  -- Refused by 6: 6 from b on. Refused by 7: 7 up to b.
+  abbrev pub Steady : ℕ → (ℕ → Answer Groups) → Answer Groups → Type 0
+  Steady b f (accepted g) = (g .splits ≤ b) × (((c : ℕ) → g .splits ≤ c → f c ≡ accepted g) × ((c : ℕ) → c < g .splits → f c ≡ refused 7))
+  Steady b f (refused number) = ((number ≡ 6) × ((c : ℕ) → b ≤ c → f c ≡ refused 6)) ⊎ ((number ≡ 7) × ((c : ℕ) → c ≤ b → f c ≡ refused 7))
+
+  abbrev by : ℕ → ℕ → List (List ℕ) → Answer Groups
+  by left n w = groupFrom parts made limit branching left n w
+
+  -- ---- each refusal, and the acceptance, comes exactly then
+  ending-list : (left n : ℕ) (g : List ℕ) (gs : List (List ℕ)) (a : Answer Groups) → length g ≤ limit → Ending left n gs a → Ending left n (g ∷ gs) (after (g ∷ []) 0 a)
+  unfolding after onAccepted
+  ending-list left n g gs (accepted r) h e = record { left′ = e .left′; n′ = e .n′; comes = listing h (e .comes) }
+  ending-list left n g gs (refused number) h (inl e) =
+      inl (e .0, record { left′ = e .1 .left′; n′ = e .1 .n′; g = e .1 .g; gs = e .1 .gs; comes = listing h (e .1 .comes); oversize = e .1 .oversize; few = e .1 .few })
+  ending-list left n g gs (refused number) h (inr e) =
+      inr (e .0, record { n′ = e .1 .n′; g = e .1 .g; gs = e .1 .gs; comes = listing h (e .1 .comes); oversize = e .1 .oversize; enough = e .1 .enough })
+
+  ending-split : (left n : ℕ) (g : List ℕ) (gs : List (List ℕ)) (a : Answer Groups) → limit < length g → branching ≤ length g
+      → Ending left (made n g) (pushed (parts n g) gs) a → Ending (suc left) n (g ∷ gs) (after [] 1 a)
+  unfolding after onAccepted
+  ending-split left n g gs (accepted r) h k e = record { left′ = e .left′; n′ = e .n′; comes = splitting h k (e .comes) }
+  ending-split left n g gs (refused number) h k (inl e) =
+      inl (e .0, record { left′ = e .1 .left′; n′ = e .1 .n′; g = e .1 .g; gs = e .1 .gs; comes = splitting h k (e .1 .comes); oversize = e .1 .oversize; few = e .1 .few })
+  ending-split left n g gs (refused number) h k (inr e) =
+      inr (e .0, record { n′ = e .1 .n′; g = e .1 .g; gs = e .1 .gs; comes = splitting h k (e .1 .comes); oversize = e .1 .oversize; enough = e .1 .enough })
+
+  -- Every grouping ends in one of the three ways.
+  pub group-ending : (left n : ℕ) (w : List (List ℕ)) → Ending left n w (by left n w)
+  group-ending left n w =
+      group-all parts made limit branching Ending
+      (λ left n. record { left′ = left; n′ = n; comes = here })
+      ending-list
+      (λ left n g gs h k. inl (refl, record { left′ = left; n′ = n; g = g; gs = gs; comes = here; oversize = h; few = k }))
+      (λ n g gs h k. inr (refl, record { n′ = n; g = g; gs = gs; comes = here; oversize = h; enough = k }))
+      ending-split left n w
+
+  -- What a grouping comes to decides its refusal.
+  comes-refused : {left n left′ n′ : ℕ} {w v : List (List ℕ)} (number : ℕ) → Comes left n w left′ n′ v → by left′ n′ v ≡ refused number → by left n w ≡ refused number
+  unfolding after onAccepted
+  comes-refused number here e = e
+  comes-refused number (listing {left = left} {n = n} {g = g} {gs = gs} h c) e = rw (group-list parts made limit branching n g gs left h, comes-refused number c e)
+  comes-refused number (splitting {left = left} {n = n} {g = g} {gs = gs} h k c) e = rw (group-split parts made limit branching n g gs left h k, comes-refused number c e)
+
+  -- Refused by 6 exactly when it comes to an oversize group with fewer rows than branching.
+  pub six-when : (left n : ℕ) (w : List (List ℕ)) → Small left n w → by left n w ≡ refused 6
+  six-when left n w s = comes-refused 6 (s .comes) (group-six parts made limit branching (s .n′) (s .g) (s .gs) (s .left′) (s .oversize) (s .few))
+
+  pub six-only : (left n : ℕ) (w : List (List ℕ)) → by left n w ≡ refused 6 → Small left n w
+  six-only left n w e = go (rw e at (group-ending left n w))
+    where
+      go : Ending left n w (refused 6) → Small left n w
+      go (inl s) = s .1
+      go (inr s) = absurd (let z = s .0 in omega arith)
+
+  -- Refused by 7 exactly when it comes to an oversize group, not such a one, with no split left.
+  pub seven-when : (left n : ℕ) (w : List (List ℕ)) → Spent left n w → by left n w ≡ refused 7
+  seven-when left n w s = comes-refused 7 (s .comes) (group-seven parts made limit branching (s .n′) (s .g) (s .gs) (s .oversize) (s .enough))
+
+  pub seven-only : (left n : ℕ) (w : List (List ℕ)) → by left n w ≡ refused 7 → Spent left n w
+  seven-only left n w e = go (rw e at (group-ending left n w))
+    where
+      go : Ending left n w (refused 7) → Spent left n w
+      go (inl s) = absurd (let z = s .0 in omega arith)
+      go (inr s) = s .1
+
+  -- Accepted exactly when it comes to where none waits.
+  passes-after : (l : List (List ℕ)) (s : ℕ) (a : Answer Groups) → Passes a → Passes (after l s a)
+  unfolding after onAccepted
+  passes-after l s (accepted g) p = tt
+  passes-after l s (refused number) p = p
+
+  comes-passes : {left n left′ n′ : ℕ} {w v : List (List ℕ)} → Comes left n w left′ n′ v → Passes (by left′ n′ v) → Passes (by left n w)
+  comes-passes here p = p
+  comes-passes (listing {left = left} {n = n} {g = g} {gs = gs} h c) p = rw (group-list parts made limit branching n g gs left h) (passes-after (g ∷ []) 0 _ (comes-passes c p))
+  comes-passes (splitting {left = left} {n = n} {g = g} {gs = gs} h k c) p = rw (group-split parts made limit branching n g gs left h k) (passes-after [] 1 _ (comes-passes c p))
+
+  pub accepted-when : (left n : ℕ) (w : List (List ℕ)) → Done left n w → Passes (by left n w)
+  accepted-when left n w d = comes-passes (d .comes) (rw (group-end parts made limit branching (d .left′) (d .n′)) tt)
+
+  pub accepted-only : (left n : ℕ) (w : List (List ℕ)) (g : Groups) → by left n w ≡ accepted g → Done left n w
+  accepted-only left n w g e = rw e at (group-ending left n w)
+
+  -- No other number refuses.
+  pub only-six-or-seven : (left n number : ℕ) (w : List (List ℕ)) → by left n w ≡ refused number → (number ≡ 6) ⊎ (number ≡ 7)
+  only-six-or-seven left n number w e = go (rw e at (group-ending left n w))
+    where
+      go : Ending left n w (refused number) → (number ≡ 6) ⊎ (number ≡ 7)
+      go (inl s) = inl (s .0)
+      go (inr s) = inr (s .0)
+
+  -- ---- the budget
+  steady-list : (left n : ℕ) (g : List ℕ) (gs : List (List ℕ)) (a : Answer Groups) → length g ≤ limit → Steady left (λ c. by c n gs) a → Steady left (λ c. by c n (g ∷ gs)) (after (g ∷ []) 0 a)
+  unfolding after onAccepted
+  steady-list left n g gs (accepted r) h s = (
+    omega (arith, s .0),
+    ((λ c p. rw (group-list parts made limit branching n g gs c h, s .1 .0 c (omega arith))), (λ c p. rw (group-list parts made limit branching n g gs c h, s .1 .1 c (omega arith)))),
+  )
+  steady-list left n g gs (refused number) h (inl s) = inl (s .0, λ c p. rw (group-list parts made limit branching n g gs c h, s .1 c p))
+  steady-list left n g gs (refused number) h (inr s) = inr (s .0, λ c p. rw (group-list parts made limit branching n g gs c h, s .1 c p))
+
+  steady-split : (left n : ℕ) (g : List ℕ) (gs : List (List ℕ)) (a : Answer Groups) → limit < length g → branching ≤ length g
+      → Steady left (λ c. by c (made n g) (pushed (parts n g) gs)) a → Steady (suc left) (λ c. by c n (g ∷ gs)) (after [] 1 a)
+  unfolding after onAccepted
+  steady-split left n g gs (accepted r) h k s = (omega (arith, s .0), (up, down))
+    where
+      up : (c : ℕ) → 1 + r .splits ≤ c → by c n (g ∷ gs) ≡ accepted (record { groups = r .groups; splits = 1 + r .splits })
+      up zero p = absurd (omega arith)
+      up (suc c) p = rw (group-split parts made limit branching n g gs c h k, s .1 .0 c (omega arith))
+
+      down : (c : ℕ) → c < 1 + r .splits → by c n (g ∷ gs) ≡ refused 7
+      down zero p = group-seven parts made limit branching n g gs h k
+      down (suc c) p = rw (group-split parts made limit branching n g gs c h k, s .1 .1 c (omega arith))
+  steady-split left n g gs (refused number) h k (inl s) = inl (s .0, up)
+    where
+      up : (c : ℕ) → suc left ≤ c → by c n (g ∷ gs) ≡ refused 6
+      up zero p = absurd (omega arith)
+      up (suc c) p = rw (group-split parts made limit branching n g gs c h k, s .1 c (omega arith))
+  steady-split left n g gs (refused number) h k (inr s) = inr (s .0, down)
+    where
+      down : (c : ℕ) → c ≤ suc left → by c n (g ∷ gs) ≡ refused 7
+      down zero p = group-seven parts made limit branching n g gs h k
+      down (suc c) p = rw (group-split parts made limit branching n g gs c h k, s .1 c (omega arith))
+
+  group-steady : (left n : ℕ) (w : List (List ℕ)) → Steady left (λ c. by c n w) (by left n w)
+  group-steady left n w =
+      group-all parts made limit branching (λ left n w a. Steady left (λ c. by c n w) a)
+      (λ left n. (omega arith, ((λ c p. group-end parts made limit branching c n), (λ c p. absurd (omega arith)))))
+      steady-list
+      (λ left n g gs h k. inl (refl, λ c p. group-six parts made limit branching n g gs c h k))
+      (λ n g gs h k. inr (refl, λ c p. let z : c ≡ 0 = omega arith in rw z (group-seven parts made limit branching n g gs h k)))
+      steady-split left n w
+
+  -- Accepted with s splits: the splits are within the budget, every budget from s on gives the same, and every budget below s gives 7.
+  pub budget-accepted : (left n : ℕ) (w : List (List ℕ)) (g : Groups) → by left n w ≡ accepted g
+      → (g .splits ≤ left) × (((c : ℕ) → g .splits ≤ c → by c n w ≡ accepted g) × ((c : ℕ) → c < g .splits → by c n w ≡ refused 7))
+  budget-accepted left n w g e = rw e at (group-steady left n w)
+
+  -- Refused by 6: by 6 under every larger budget.
+  pub budget-six : (left n : ℕ) (w : List (List ℕ)) → by left n w ≡ refused 6 → (c : ℕ) → left ≤ c → by c n w ≡ refused 6
+  budget-six left n w e = go (rw e at (group-steady left n w))
+    where
+      go : Steady left (λ c. by c n w) (refused 6) → (c : ℕ) → left ≤ c → by c n w ≡ refused 6
+      go (inl s) = s .1
+      go (inr s) = absurd (let z = s .0 in omega arith)
+
+  -- ---- the rows, where a split of a group with at least as many rows as branching, and with at most `most` of them, keeps its rows
+  module _ (most : ℕ) (kept : (n : ℕ) (g : List ℕ) → branching ≤ length g → length g ≤ most → Same (flat (parts n g)) g) where
+    -- a split changes nothing of the rows that wait
+    split-same : (n : ℕ) (g : List ℕ) (gs : List (List ℕ)) → branching ≤ length g → length (flatten (g ∷ gs)) ≤ most
+        → Same (flatten (pushed (parts n g) gs)) (flatten (g ∷ gs))
+    unfolding flatten
+    split-same n g gs k b f =
+        let l : length g ≤ most = omega (arith, length-append g (flatten gs)) in
+        ap (weigh f) (flatten-pushed (parts n g) gs)
+        ∙ omega (arith, weigh-append f (flat (parts n g)) (flatten gs), weigh-append f g (flatten gs), kept n g k l f)
+
+    split-few : (n : ℕ) (g : List ℕ) (gs : List (List ℕ)) → branching ≤ length g → length (flatten (g ∷ gs)) ≤ most → length (flatten (pushed (parts n g) gs)) ≤ most
+    split-few n g gs k b = omega (arith, same-length (flatten (pushed (parts n g) gs)) (flatten (g ∷ gs)) (split-same n g gs k b))
+
+    list-few : (g : List ℕ) (gs : List (List ℕ)) → length (flatten (g ∷ gs)) ≤ most → length (flatten gs) ≤ most
+    unfolding flatten
+    list-few g gs b = omega (arith, length-append g (flatten gs))
+
+    -- Along the way no row waits that did not wait at first, and none more often.
+    pub comes-within : {left n left′ n′ : ℕ} {w v : List (List ℕ)} → Comes left n w left′ n′ v → length (flatten w) ≤ most → (f : ℕ → ℕ) → weigh f (flatten v) ≤ weigh f (flatten w)
+    unfolding flatten
+    comes-within here b f = omega arith
+    comes-within (listing {g = g} {gs = gs} h c) b f = omega (arith, weigh-append f g (flatten gs), comes-within c (list-few g gs b) f)
+    comes-within (splitting {n = n} {g = g} {gs = gs} h k c) b f = omega (arith, split-same n g gs k b f, comes-within c (split-few n g gs k b) f)
+
+    abbrev Good : List (List ℕ) → Answer Groups → Type 0
+    Good w (accepted r) = Families limit (flatten w) (r .groups)
+    Good w (refused number) = Unit {0}
+
+    abbrev Goes : List (List ℕ) → Answer Groups → Type 0
+    Goes w a = All Full w → length (flatten w) ≤ most → Good w a
+
+    good-list : (left n : ℕ) (g : List ℕ) (gs : List (List ℕ)) (a : Answer Groups) → length g ≤ limit → Goes gs a → Goes (g ∷ gs) (after (g ∷ []) 0 a)
+    unfolding after onAccepted flatten
+    good-list left n g gs (accepted r) h good f b =
+        let s = good (f .1) (list-few g gs b) in
+        record {
+          same = λ x. omega (arith, weigh-append x g (flatten (r .groups)), weigh-append x g (flatten gs), s .same x);
+          sized = ((f .0, h), s .sized);
+        }
+    good-list left n g gs (refused number) h good f b = tt
+
+    good-split : (left n : ℕ) (g : List ℕ) (gs : List (List ℕ)) (a : Answer Groups) → limit < length g → branching ≤ length g
+        → Goes (pushed (parts n g) gs) a → Goes (g ∷ gs) (after [] 1 a)
+    unfolding after onAccepted
+    good-split left n g gs (accepted r) h k good f b =
+        let s = good (full-pushed (parts n g) gs (f .1)) (split-few n g gs k b) in
+        record { same = λ x. s .same x ∙ split-same n g gs k b x; sized = s .sized }
+    good-split left n g gs (refused number) h k good f b = tt
+
+    group-good : (left n : ℕ) (w : List (List ℕ)) → Goes w (by left n w)
+    unfolding flatten
+    group-good left n w =
+        group-all parts made limit branching (λ left n w a. Goes w a)
+        (λ left n f b. record { same = λ x. refl; sized = tt })
+        good-list
+        (λ left n g gs h k f b. tt)
+        (λ n g gs h k f b. tt)
+        good-split left n w
+
+    -- An accepted grouping lists the rows that waited, in groups of one row to the limit.
+    pub accepted-families : (left n : ℕ) (w : List (List ℕ)) (g : Groups) → All Full w → length (flatten w) ≤ most → by left n w ≡ accepted g → Families limit (flatten w) (g .groups)
+    accepted-families left n w g f b e = (rw e at (group-good left n w)) f b
+
+    -- An accepted grouping of all rows: each once, group sizes, group ends, and how many groups.
+    pub accepted-listing : (left rows : ℕ) (g : Groups) → rows ≤ most → by left 0 (waits (upTo rows) []) ≡ accepted g → Listing limit rows (g .groups)
+    accepted-listing left rows g b e =
+        let first : length (flatten (waits (upTo rows) [])) ≡ rows = ap length (one-flat (upTo rows)) ∙ up-length rows in
+        let f = accepted-families left 0 (waits (upTo rows) []) g (one-full (upTo rows)) (omega arith) e in
+        let s : Same (flatten (g .groups)) (upTo rows) = λ x. f .same x ∙ ap (weigh x) (one-flat (upTo rows)) in
+        let n : length (flatten (g .groups)) ≡ rows = same-length (flatten (g .groups)) (upTo rows) s ∙ up-length rows in
+        record {
+          once = λ x h. same-count (flatten (g .groups)) (upTo rows) s x ∙ count-once x rows h;
+          all = n;
+          sized = f .sized;
+          ends = λ i h. end-total (g .groups) i h;
+          last = λ h. last-total (g .groups) (omega arith) ∙ n;
+          most = omega (arith, full-count (g .groups) (all-weaken (Sized limit) Full (λ x p. p .0) (g .groups) (f .sized)), n);
+          least = λ h. rw n at (groups-least limit (g .groups) h (f .sized));
+        }

@@ -1,0 +1,91 @@
+-- One split, on lists: k-means, the rows gathered and balanced put together. Assumes nothing.
+use mathlib.Core.Path.{_≡_, sym, ap}
+use mathlib.Core.Bool.{true, false}
+use mathlib.Core.List.{List, []}
+use Prim.Native.Nat.{ℕ, _*_, _≤_, _<_}
+use native.Mathlib.Nat.{mod-eq-of-lt}
+use native.Mathlib.Omega.{arith}
+use lib.Ieee.{Float, lt}
+use lib.ListN.{length, getD, length-map}
+use Rattle.sums.specs.Rows.{Row, rowsAt}
+use Rattle.sums.specs.Sums.{zero32}
+use Rattle.sums.specs.Cells.{Below}
+use Rattle.sums.specs.Draws.{cursorAt}
+use Rattle.sums.specs.declared.draws.Cursor.{Cursor}
+use Rattle.kmeans.specs.declared.config.KMeansConfig.{KMeansConfig}
+use Rattle.kmeans.specs.declared.restart.Kept.{Kept}
+use Rattle.kmeans.specs.Inside.{Limits}
+use Rattle.kmeans.specs.KMeans.{Result, forGrouping}
+use Rattle.kmeans.proofs.Restarts.{Ran}
+use Rattle.kmeans.proofs.Promises.{labels-below}
+use Rattle.grouping.specs.Parts.{gathered, flat}
+use Rattle.grouping.specs.Balance.{share}
+use Rattle.grouping.specs.Groups.{ruleOf, balanceIf, partsOf, madeBy}
+use Rattle.grouping.specs.PartsInside.{Laid}
+use Rattle.grouping.specs.Inside.{Split}
+use Rattle.grouping.proofs.Rounds.{Balanced}
+use Rattle.grouping.proofs.Lists.{below-same}
+use Rattle.grouping.proofs.Gathers.{gathered-length}
+use Rattle.grouping.proofs.BalancePromises.{gathered-same}
+
+-- ---- balancing where the weight is above zero
+module _ (rows centroids : List Row) (share : ℕ) (weight : Float) (ps : List (List ℕ)) {part sizes : List ℕ} where
+  pub balanced-above : {n : ℕ} → lt zero32 weight ≡ true → Balanced rows centroids share weight ps part sizes n → Laid (balanceIf rows centroids share weight ps) part sizes
+  unfolding balanceIf
+  balanced-above e b = rw e (b .0)
+
+  pub balanced-not : lt zero32 weight ≡ false → Laid ps part sizes → Laid (balanceIf rows centroids share weight ps) part sizes
+  unfolding balanceIf
+  balanced-not e l = rw e l
+
+-- ---- the labels that k-means gives
+
+-- a cursor stands for its own place
+cursor-own : (draws : List ℕ) (cursor : Cursor) → cursor .at < length draws → cursor ≡ cursorAt draws (cursor .at)
+cursor-own draws cursor h = let f : ℕ → Cursor = λ n. record { at = n } in ap f (sym (mod-eq-of-lt h))
+
+-- each row of the group has a label, one of k, and so the rows gathered are the group's
+pub record Labelled (rows k : ℕ) (group labels : List ℕ) : Type 0 where
+  pub each : length group ≡ length labels
+  pub among : Below k labels
+  pub below : Below rows (flat (gathered k group labels))
+  pub whole : length (flat (gathered k group labels)) ≡ length group
+
+labelled-by : (rows k : ℕ) (group labels : List ℕ) → Below rows group → length group ≡ length labels → Below k labels → Labelled rows k group labels
+labelled-by rows k group labels inside e b = record {
+  each = e;
+  among = b;
+  below = below-same rows (flat (gathered k group labels)) group (gathered-same k group labels e b) inside;
+  whole = gathered-length k group labels e b;
+}
+
+pub labelled : {draws : List ℕ} {k : ℕ} (dim : ℕ) {cursor : Cursor} {kept : Kept} {labels : List ℕ} {centroids : List Row} (rows : ℕ) (table : List Row) (group : List ℕ)
+    → cursor .at < length draws → 0 < k → k ≤ length group → Below rows group → Ran draws forGrouping k dim (rowsAt table group) cursor kept labels centroids
+    → Labelled rows k group labels
+labelled {draws} {k} dim {cursor} {kept} {labels} rows table group inside some enough below ran =
+    let l = length-map group (λ i. getD table i []) in
+    let e = ap (λ (r : Result). r .labels) (ran .steps (cursor .at) (cursor-own draws cursor inside) .0) in
+    let found : (length labels ≡ length group) × Below k labels
+    = rw e (rw l at (labels-below draws (cursor .at) forGrouping k dim (rowsAt table group) some (rw l enough))) in
+    labelled-by rows k group labels below (sym (found .0)) (found .1)
+
+-- ---- the split
+
+-- the slices of a split are those of a k-means run
+pub split-space : {dim k rows n labels gathered centroids training : ℕ} (config : KMeansConfig) → Limits dim k rows → n ≤ 4096 → k ≤ n → labels ≡ n → gathered ≡ n * dim → centroids ≡ k * dim → training ≡ n * dim
+    → config ≡ forGrouping
+    → (Limits dim k labels × ((k ≤ labels) × ((config .«max_points_per_centroid» ≤ 4096) × (0 < config .«decode_block_size»))))
+    × ((gathered ≡ labels * dim) × ((centroids ≡ k * dim) × (training ≡ labels * dim)))
+split-space config l few enough e g c t f = rw (e, f) (((l .0, (l .1 .0, few)), (enough, (omega arith, omega arith))), (g, (c, t)))
+
+pub split-done : {draws : List ℕ} {k : ℕ} (dim : ℕ) {group labels : List ℕ} {cursor : Cursor} {kept : Kept} {centroids : List Row} (table : List Row) (weight : Float) {part sizes : List ℕ}
+    → Ran draws forGrouping k dim (rowsAt table group) cursor kept labels centroids
+    → Laid (balanceIf table centroids (share (length group) k) weight (gathered k group labels)) part sizes
+    → Split (ruleOf draws dim table k weight) group cursor (kept .cursor) part sizes
+unfolding partsOf madeBy
+split-done dim table weight ran b = record {
+  inside = ran .inside;
+  steps = λ n p.
+      let w = ran .steps n p in
+      (rw (← ap (λ (r : Result). r .labels) (w .0), ← ap (λ (r : Result). r .centroids) (w .0)) b, w .1);
+}

@@ -1,0 +1,11 @@
+// The settings of a grouping (the source's HierarchicalClustering).
+pub struct GroupingConfig {
+    // a group of at most so many rows is finished
+    pub limit: u32,
+    // how many parts a split makes
+    pub branching: u32,
+    // parts are balanced where this is above zero
+    pub weight: f32,
+    // at most so many splits
+    pub budget: u32,
+}

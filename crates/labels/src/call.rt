@@ -1,0 +1,99 @@
+// Labelling, whole: any call is answered, by labels or by the number of its refusal.
+ghost use mathlib.Core.Path.{_≡_};
+ghost use mathlib.Core.Bool.{_&&_};
+ghost use Prim.Native.Nat.{_*_, _≤_};
+ghost use lib.Dec.{eqb};
+ghost use lib.ListN.{length};
+ghost use Rattle.sums.specs.Refusals.{within};
+ghost use Rattle.labels.specs.Call.{labelRefusal, labelCall, Gives};
+use crate::nearest;
+use sums::cells;
+use sums::checks;
+
+// Labelled, or refused by number.
+pub enum LabelAnswer {
+    Labelled,
+    // the refusal's number
+    Refused(u32),
+}
+
+// 1: a number is out of range.
+fn ranges_fit(rows: u32, dim: u32, k: u32) -> bool
+    ensures { λ r. ⌜ r ≡ (within 0 4096 rows && within 1 64 dim && within 1 64 k) ⌝ }
+{
+    let a = checks::both(checks::within(0, 4096, rows), checks::within(1, 64, dim));
+    checks::both(a, checks::within(1, 64, k))
+}
+
+// 2: a slice is not of its length; the numbers are in range.
+fn lengths_fit(
+    rows: usize,
+    dim: usize,
+    k: usize,
+    values: usize,
+    centroids: usize,
+    labels: usize,
+) -> bool
+    requires { ⌜ (rows ≤ 4096) × ((dim ≤ 64) × (k ≤ 64)) ⌝ }
+    ensures { λ r. ⌜ r ≡ (eqb values (rows * dim) && eqb centroids (k * dim) && eqb labels rows) ⌝ }
+{
+    let a = checks::both(
+        checks::same(values, rows * dim),
+        checks::same(centroids, k * dim),
+    );
+    checks::both(a, checks::same(labels, rows))
+}
+
+fn refusal(rows: u32, dim: u32, k: u32, values: usize, centroids: usize, labels: usize) -> u32
+    ensures { λ r. ⌜ r ≡ labelRefusal rows dim k values centroids labels ⌝ }
+{
+    if !ranges_fit(rows, dim, k) {
+        return 1;
+    }
+    if !lengths_fit(
+        rows as usize,
+        dim as usize,
+        k as usize,
+        values,
+        centroids,
+        labels,
+    ) {
+        return 2;
+    }
+    0
+}
+
+// The labels of rows against given centroids (01, 'Sums in stated order'), or the refusal's number and blank cells.
+pub fn label_rows(
+    rows: u32,
+    dim: u32,
+    k: u32,
+    values: &[f32],
+    centroids: &[f32],
+    labels: &mut [u16],
+) -> LabelAnswer
+    ensures { λ r. ⌜ (let n = length (now (labels .entry)) in
+        Gives (labelCall rows dim k (now (values .entry)) (now (centroids .entry)) n) n r (now (labels .exit))) ⌝ }
+{
+    let wide = dim as usize;
+    let clusters = k as usize;
+    cells::fill(labels, 65535);
+    let number = refusal(rows, dim, k, values.len(), centroids.len(), labels.len());
+    if number != 0 {
+        return LabelAnswer::Refused(number);
+    }
+    let n = labels.len();
+    let mut own = [0.0f32; 4096];
+    let mut distances = [0.0f32; 4096];
+    nearest::compute_norms(values, wide, &mut own[..n]);
+    nearest::assign_rows(
+        values,
+        &own[..n],
+        wide,
+        centroids,
+        clusters,
+        labels,
+        &mut distances[..n],
+    );
+    LabelAnswer::Labelled
+}

@@ -1,3 +1,0 @@
--- 01, 'K-means' step 3 (the pool), as definitions.
-pub mod Pool
-pub mod Inside
