@@ -12,7 +12,6 @@ use Rattle.words.specs.Bytes.{floatsFrom, bytes16}
 use Rattle.labels.specs.Label.{nearest}
 use Rattle.closure.specs.Call.{closureCall}
 use Rattle.kmeans.specs.declared.config.KMeansConfig.{KMeansConfig}
-use Rattle.grouping.specs.declared.config.GroupingConfig.{GroupingConfig}
 use Rattle.grouping.specs.Groups.{Groups, meanOf}
 use Rattle.grouping.specs.Call.{groupingCall}
 
@@ -65,13 +64,11 @@ closureWritten count indices = flatMap bytes16 (padded blankCell count indices) 
 abbrev pub configOf : ℕ → ℕ → ℕ → ℕ → KMeansConfig
 configOf iterations restarts points block = record { niter = iterations; nredo = restarts; «max_points_per_centroid» = points; «decode_block_size» = block }
 
-abbrev pub groupingOf : ℕ → ℕ → Float → ℕ → GroupingConfig
-groupingOf limit branching weight budget = record { limit = limit; branching = branching; weight = weight; budget = budget }
-
--- grouping's answer to what is lent
-abbrev pub groupAnswer : ℕ → ℕ → GroupingConfig → List ℕ → List Float → List ℕ → List ℕ → List Float → List Float → List Float → Answer Groups
-groupAnswer rows dim config draws values order ends means gathered training =
-    groupingCall rows dim config draws values (length order ∷ length ends ∷ length means ∷ length gathered ∷ length training ∷ [])
+-- grouping's answer to its four numbers and what is lent
+abbrev pub groupAnswer : ℕ → ℕ → ℕ → ℕ → Float → ℕ → List ℕ → List Float → List ℕ → List ℕ → List Float → List Float → List Float → Answer Groups
+groupAnswer rows dim limit branching weight budget draws values order ends means gathered training =
+    groupingCall rows dim (record { limit = limit; branching = branching; weight = weight; budget = budget }) draws values
+    (length order ∷ length ends ∷ length means ∷ length gathered ∷ length training ∷ [])
 
 abbrev pub meansOf : ℕ → List Row → Groups → List Float
 meansOf dim rows g = flatMap (meanOf dim rows) (g .groups)

@@ -1,7 +1,9 @@
 // What the bench host calls on bytes: numbers and little-endian bytes in, a number and bytes out.
 ghost use mathlib.Core.Path.{_≡_};
+ghost use mathlib.Core.Bool.{_&&_};
 ghost use mathlib.Core.List.{_++_, flatMap};
 ghost use Prim.Native.Nat.{_+_, _*_, _≤_, _<_};
+ghost use lib.Dec.{eqb};
 ghost use lib.ListN.{length, replicate};
 ghost use Rattle.words.specs.Bytes.{floatsFrom, bytes16};
 ghost use Rattle.closure.specs.Call.{closureCall};
@@ -9,6 +11,7 @@ ghost use Rattle.batch.specs.Batch.{listingOf, putFront};
 ghost use Rattle.exports.specs.Exports.{Gave, labelRefusal, labelCall, labelOf, closureRefusal, closureBytesCall, closureWritten};
 use closure::call::ClosureAnswer;
 use labels::call;
+use sums::checks;
 
 // 255 in every byte.
 fn fill(result: &mut [u8])
@@ -21,26 +24,34 @@ fn fill(result: &mut [u8])
     }
 }
 
+// 2: a slice has not its number of bytes; the numbers are in range, and the result is to have `wanted`.
+fn lengths_fit(
+    dim: usize,
+    k: usize,
+    row: usize,
+    centroids: usize,
+    result: usize,
+    wanted: usize,
+) -> bool
+    requires { ⌜ (dim ≤ 64) × (k ≤ 64) ⌝ }
+    ensures { λ r. ⌜ r ≡ (eqb row (dim * 4) && eqb centroids (k * dim * 4) && eqb result wanted) ⌝ }
+{
+    let a = checks::both(
+        checks::same(row, dim * 4),
+        checks::same(centroids, k * dim * 4),
+    );
+    checks::both(a, checks::same(result, wanted))
+}
+
 // Refusals 1 and 2, lengths being counts of bytes.
-fn closure_refusal(dim: usize, count: usize, vector: usize, centroids: usize, result: usize) -> u32
+fn closure_refusal(dim: u32, count: u32, vector: usize, centroids: usize, result: usize) -> u32
     ensures { λ r. ⌜ r ≡ closureRefusal dim count vector centroids result ⌝ }
 {
-    if dim < 1 {
+    if !checks::both(checks::within(1, 64, dim), checks::within(0, 64, count)) {
         return 1;
     }
-    if 64 < dim {
-        return 1;
-    }
-    if 64 < count {
-        return 1;
-    }
-    if vector != dim * 4 {
-        return 2;
-    }
-    if centroids != count * dim * 4 {
-        return 2;
-    }
-    if result != count * 2 + 2 {
+    let k = count as usize;
+    if !lengths_fit(dim as usize, k, vector, centroids, result, k * 2 + 2) {
         return 2;
     }
     0
@@ -110,7 +121,7 @@ pub extern "C" fn families_closure(
     fill(result);
     let d = dim as usize;
     let k = count as usize;
-    let number = closure_refusal(d, k, vector.len(), centroids.len(), result.len());
+    let number = closure_refusal(dim, count, vector.len(), centroids.len(), result.len());
     if number != 0 {
         return number;
     }
@@ -133,28 +144,13 @@ pub extern "C" fn families_closure(
 }
 
 // Refusals 1 and 2 likewise.
-fn label_refusal(dim: usize, k: usize, row: usize, centroids: usize, result: usize) -> u32
+fn label_refusal(dim: u32, k: u32, row: usize, centroids: usize, result: usize) -> u32
     ensures { λ r. ⌜ r ≡ labelRefusal dim k row centroids result ⌝ }
 {
-    if dim < 1 {
+    if !checks::both(checks::within(1, 64, dim), checks::within(1, 64, k)) {
         return 1;
     }
-    if 64 < dim {
-        return 1;
-    }
-    if k < 1 {
-        return 1;
-    }
-    if 64 < k {
-        return 1;
-    }
-    if row != dim * 4 {
-        return 2;
-    }
-    if centroids != k * dim * 4 {
-        return 2;
-    }
-    if result != 2 {
+    if !lengths_fit(dim as usize, k as usize, row, centroids, result, 2) {
         return 2;
     }
     0
@@ -198,7 +194,7 @@ pub extern "C" fn families_label(
     fill(result);
     let d = dim as usize;
     let n = k as usize;
-    let number = label_refusal(d, n, row.len(), centroids.len(), result.len());
+    let number = label_refusal(dim, k, row.len(), centroids.len(), result.len());
     if number != 0 {
         return number;
     }

@@ -12,7 +12,7 @@ ghost use Rattle.kmeans.specs.KMeans.{Result};
 ghost use Rattle.kmeans.specs.Call.{kmeansCall, told as kmeansTold};
 ghost use Rattle.grouping.specs.Answers.{told as groupsTold};
 ghost use Rattle.grouping.specs.Groups.{Groups, endsFrom};
-ghost use Rattle.exports.specs.Exports.{codeOf, configOf, groupingOf, groupAnswer, meansOf, figureOf};
+ghost use Rattle.exports.specs.Exports.{codeOf, configOf, groupAnswer, meansOf, figureOf};
 use grouping::config::GroupingConfig;
 use grouping::waiting::GroupingAnswer;
 use kmeans::call::KMeansAnswer;
@@ -152,11 +152,11 @@ pub extern "C" fn families_group(
     gathered: &mut [f32],
     training: &mut [f32],
 ) -> u32
-    ensures { λ r. ⌜ (let answer = groupAnswer rows dim (groupingOf limit branching weight budget) (now (draws .entry)) (now (values .entry))
+    ensures { λ r. ⌜ (let answer = groupAnswer rows dim limit branching weight budget (now (draws .entry)) (now (values .entry))
         (now (order .entry)) (now (ends .entry)) (now (means .entry)) (now (gathered .entry)) (now (training .entry)) in
         (r ≡ codeOf answer) × ((now (groups .exit) ≡ figureOf 0 (λ (g : Groups). length (g .groups)) answer)
         × (now (splits .exit) ≡ figureOf 0 (λ (g : Groups). g .splits) answer))) ⌝ }
-    ensures { λ _. ⌜ (let answer = groupAnswer rows dim (groupingOf limit branching weight budget) (now (draws .entry)) (now (values .entry))
+    ensures { λ _. ⌜ (let answer = groupAnswer rows dim limit branching weight budget (now (draws .entry)) (now (values .entry))
         (now (order .entry)) (now (ends .entry)) (now (means .entry)) (now (gathered .entry)) (now (training .entry)) in
         (now (order .exit) ≡ cellsOf blankCell (length (now (order .entry))) (λ (g : Groups). flatten (g .groups)) answer)
         × ((now (ends .exit) ≡ cellsOf blankCell (length (now (ends .entry))) (λ (g : Groups). endsFrom 0 (g .groups)) answer)

@@ -49,13 +49,11 @@ pub record Trainable (plan : Plan) (training norms : List Float) (centroids : �
   pub centroid-cells : centroids ≡ plan .k * plan .dim
 
 -- what restarts work on: iterations' work with rows enough for the clusters, and all rows, which are labelled
-abbrev pub Restartable : Plan → List Float → List Float → List Float → ℕ → ℕ → Type 0
-Restartable plan values training norms rows centroids = record {
-  trainable : Trainable plan training norms centroids;
-  enough : plan .k ≤ length norms;
-  few-labels : rows ≤ 4096;
-  value-cells : length values ≡ rows * plan .dim;
-}
+pub record Restartable (plan : Plan) (values training norms : List Float) (rows centroids : ℕ) : Type 0 where
+  pub trainable : Trainable plan training norms centroids
+  pub enough : plan .k ≤ length norms
+  pub few-labels : rows ≤ 4096
+  pub value-cells : length values ≡ rows * plan .dim
 
 -- what empty clusters are filled from: training rows, and some of their positions in the pool
 abbrev pub Sources : List Float → ℕ → ℕ → List ℕ → Type 0
@@ -88,15 +86,13 @@ Fitted draws plan training centroids₀ cursor centroids r =
     Drawn draws cursor r centroids (λ n. after n .centroids) (λ n. after n .made)
 
 -- one row, its norm and its sum, positions to fill empty clusters from, and room for k clusters
-abbrev pub Alone : Row → List Float → Row → List ℕ → ℕ → ℕ → ℕ → Type 0
-Alone row norm sum spare k centroids totals = record {
-  limits : Limits (length row) k 1;
-  sum-cells : length sum ≡ length row;
-  centroid-cells : centroids ≡ k * length row;
-  total-cells : totals ≡ k * length row;
-  normed : norm ≡ normsOf (row ∷ []);
-  first : Below 1 spare;
-}
+pub record Alone (row : Row) (norm : List Float) (sum : Row) (spare : List ℕ) (k centroids totals : ℕ) : Type 0 where
+  pub limits : Limits (length row) k 1
+  pub sum-cells : length sum ≡ length row
+  pub centroid-cells : centroids ≡ k * length row
+  pub total-cells : totals ≡ k * length row
+  pub normed : norm ≡ normsOf (row ∷ [])
+  pub first : Below 1 spare
 
 -- what stands for `count` rows that are all one row: their sum, and a position for each of the first k of their pool
 pub record Alike (k dim block count : ℕ) (row sum : Row) (spare : List ℕ) : Type 0 where

@@ -99,27 +99,27 @@ module _ (centroids : List Row) (dim n : ℕ) (values : List Float) where
 
 -- what the panels give all rows, and what the centroids give: labels, distances, and whether every label is the one that stood there before
 abbrev pub ByPanels : List Float → List Float → ℕ → List Float → List Float → List ℕ → List ℕ → List Float → Bool → Type 0
-ByPanels values own dim panels norms labels₀ labels distances same =
-    (labels ≡ tabulate (λ i. byPanels (rowAt values dim i) (getD own i nan) panels norms .label) (length labels₀))
-    × ((distances ≡ tabulate (λ i. byPanels (rowAt values dim i) (getD own i nan) panels norms .distance) (length labels₀)) × (same ≡ sameAll labels₀ labels))
+ByPanels values rownorms dim panels norms labels₀ labels distances same =
+    (labels ≡ tabulate (λ i. byPanels (rowAt values dim i) (getD rownorms i nan) panels norms .label) (length labels₀))
+    × ((distances ≡ tabulate (λ i. byPanels (rowAt values dim i) (getD rownorms i nan) panels norms .distance) (length labels₀)) × (same ≡ sameAll labels₀ labels))
 
 abbrev pub Assigned : List Row → List Row → List ℕ → List ℕ → List Float → Bool → Type 0
 Assigned centroids rows labels₀ labels distances same =
     (labels ≡ labelsOf (nearests centroids rows)) × ((distances ≡ distancesOf (nearests centroids rows)) × (same ≡ sameAll labels₀ labels))
 
-module _ (dim k : ℕ) (values own centroids : List Float) (n m : ℕ) (a : Assignable dim k values own centroids n m) where
+module _ (dim k : ℕ) (values rownorms centroids : List Float) (n m : ℕ) (a : Assignable dim k values rownorms centroids n m) where
   -- row i's norm is at hand, and row i is dim long
   same-nearest : (cells : ℕ) → (k + 15) / 16 * (16 * dim) ≤ cells → (i : ℕ) → i < n
-      → byPanels (rowAt values dim i) (getD own i nan) (panelsOf centroids dim k cells) (normsOf (rowsFrom dim k centroids)) ≡ nearest (rowsFrom dim k centroids) (rowAt values dim i)
+      → byPanels (rowAt values dim i) (getD rownorms i nan) (panelsOf centroids dim k cells) (normsOf (rowsFrom dim k centroids)) ≡ nearest (rowsFrom dim k centroids) (rowAt values dim i)
   same-nearest cells wide i h =
       let fits : i * dim + dim ≤ length values = omega (arith, room i n dim h, a .1 .0) in
-      let norm-is : getD own i nan ≡ normOf (rowAt values dim i)
+      let norm-is : getD rownorms i nan ≡ normOf (rowAt values dim i)
       = ap (λ (l : List Float). getD l i nan) (a .1 .1 .1 .1 ∙ map-rows normOf dim n values) ∙ getD-tab (λ j. normOf (rowAt values dim j)) n i nan h in
       rw norm-is (by-panels (rowAt values dim i) centroids dim k cells (a .1 .1 .0) wide (length-take-le dim (drop (i * dim) values) (rw length-drop (omega arith))))
 
   pub by-centroids : {panels norms : List Float} (labels₀ labels : List ℕ) (distances : List Float) (same : Bool) (cells : ℕ) → (k + 15) / 16 * (16 * dim) ≤ cells
       → length labels₀ ≡ n → panels ≡ panelsOf centroids dim k cells → norms ≡ normsOf (rowsFrom dim k centroids)
-      → ByPanels values own dim panels norms labels₀ labels distances same
+      → ByPanels values rownorms dim panels norms labels₀ labels distances same
       → Assigned (rowsFrom dim k centroids) (rowsFrom dim n values) labels₀ labels distances same
   by-centroids labels₀ labels distances same cells wide e p q b = (
     b .0 ∙ rw (e, p, q) (tab-same _ _ n (λ i h. ap (λ (x : Nearest). x .label) (same-nearest cells wide i h)) ∙ sym (labels-tab (rowsFrom dim k centroids) dim n values)),

@@ -36,28 +36,28 @@ from-more i f n best = rw add-one (from-append i (tabulate f n) (f n ∷ []) bes
 
 -- the best after `count` clusters from `from` on, by their dots with the row
 abbrev pub Scanned : Nearest → Float → List Float → List Float → ℕ → ℕ → Nearest
-Scanned best own dots norms from count = nearestFrom from (tabulate (λ j. scoreFrom own (getD norms (from + j) nan) (getD dots j nan)) count) best
+Scanned best rownorm dots norms from count = nearestFrom from (tabulate (λ j. scoreFrom rownorm (getD norms (from + j) nan) (getD dots j nan)) count) best
 
 -- ---- by panels: cluster c is column c % 16 of panel c / 16
 unfoldable pub panelScore : Row → Float → List Float → List Float → ℕ → Float
-panelScore row own panels norms c =
-    scoreFrom own (getD norms c nan) (dotOf row (columnOf (rowAt panels (16 * length row) (c / 16)) (length row) (c % 16)))
+panelScore row rownorm panels norms c =
+    scoreFrom rownorm (getD norms c nan) (dotOf row (columnOf (rowAt panels (16 * length row) (c / 16)) (length row) (c % 16)))
 
-pub panel-scores : (row : Row) (own : Float) (panels norms : List Float) → byPanels row own panels norms ≡ nearestFrom 0 (tabulate (panelScore row own panels norms) (length norms)) nothingYet
+pub panel-scores : (row : Row) (rownorm : Float) (panels norms : List Float) → byPanels row rownorm panels norms ≡ nearestFrom 0 (tabulate (panelScore row rownorm panels norms) (length norms)) nothingYet
 unfolding byPanels panelScore
-panel-scores row own panels norms = refl
+panel-scores row rownorm panels norms = refl
 
 -- `n` clusters more, from `from` on, where their panel starts: their dots are the first of `dots`
-pub panel-more : (row : Row) (own : Float) (panels norms dots : List Float) (from n at wide : ℕ) (best best' : Nearest)
+pub panel-more : (row : Row) (rownorm : Float) (panels norms dots : List Float) (from n at wide : ℕ) (best best' : Nearest)
     → from % 16 ≡ 0 → n ≤ 16 → wide ≡ 16 * length row → at ≡ (from + 15) / 16 * wide
     → dots ≡ dotsOf row (take (at + wide - at) (drop at panels))
-    → best ≡ nearestFrom 0 (tabulate (panelScore row own panels norms) from) nothingYet
-    → best' ≡ Scanned best own dots norms from n
-    → best' ≡ nearestFrom 0 (tabulate (panelScore row own panels norms) (from + n)) nothingYet
+    → best ≡ nearestFrom 0 (tabulate (panelScore row rownorm panels norms) from) nothingYet
+    → best' ≡ Scanned best rownorm dots norms from n
+    → best' ≡ nearestFrom 0 (tabulate (panelScore row rownorm panels norms) (from + n)) nothingYet
 unfolding panelScore
-panel-more row own panels norms dots from n at wide best best' z small w a d b e =
-    let f = panelScore row own panels norms in
-    let same : tabulate (λ j. scoreFrom own (getD norms (from + j) nan) (getD dots j nan)) n ≡ tabulate (λ j. f (from + j)) n
+panel-more row rownorm panels norms dots from n at wide best best' z small w a d b e =
+    let f = panelScore row rownorm panels norms in
+    let same : tabulate (λ j. scoreFrom rownorm (getD norms (from + j) nan) (getD dots j nan)) n ≡ tabulate (λ j. f (from + j)) n
     = tab-same _ _ n (λ j l.
     let lo : j < 16 = omega arith in
     let q : (from + j) / 16 ≡ (from + 15) / 16 = omega (arith, z, lo) in

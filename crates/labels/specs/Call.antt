@@ -14,9 +14,8 @@ use Rattle.labels.specs.declared.call.LabelAnswer.the-variants.{Labelled
 
 -- 1: rows, dim or k out of range; 2: a slice is not as long as they say
 unfoldable pub labelRefusal : ℕ → ℕ → ℕ → ℕ → ℕ → ℕ → ℕ
-labelRefusal rows dim k values centroids cells = lowest (
-    (within 0 4096 rows && within 1 64 dim && within 1 64 k)
-    ∷ (eqb values (rows * dim) && eqb centroids (k * dim) && eqb cells rows) ∷ [])
+labelRefusal rows dim k values centroids cells =
+    lowest ((within 0 4096 rows && within 1 64 dim && within 1 64 k) ∷ (eqb values (rows * dim) && eqb centroids (k * dim) && eqb cells rows) ∷ [])
 
 -- the labels, one a row
 unfoldable pub labelCall : ℕ → ℕ → ℕ → List Float → List Float → ℕ → Answer (List ℕ)

@@ -18,16 +18,12 @@ normsOf rows = map normOf rows
 
 -- the best after `count` clusters from `from` on, of whose dots with the row these are the first
 abbrev pub scanned : Float → List Float → List Float → ℕ → ℕ → Nearest → Nearest
-scanned own norms dots from count best = nearestFrom from (tabulate (λ j. scoreFrom own (getD norms (from + j) nan) (getD dots j nan)) count) best
+scanned rownorm norms dots from count best = nearestFrom from (tabulate (λ j. scoreFrom rownorm (getD norms (from + j) nan) (getD dots j nan)) count) best
 
 -- a row's nearest by the panels, from the row and its norm: cluster c is column c % 16 of panel c / 16
 unfoldable pub byPanels : Row → Float → List Float → List Float → Nearest
-byPanels row own panels norms = let column : ℕ → Row = λ c. columnOf (rowAt panels (16 * length row) (c / 16)) (length row) (c % 16) in
-    nearestFrom 0 (tabulate (λ c. scoreFrom own (getD norms c nan) (dotOf row (column c))) (length norms)) nothingYet
-
--- and of row i, of which these are the norms
-abbrev pub foundBy : ℕ → List Float → List Float → List Float → List Float → ℕ → Nearest
-foundBy dim values own panels norms i = byPanels (rowAt values dim i) (getD own i nan) panels norms
+byPanels row rownorm panels norms = let column : ℕ → Row = λ c. columnOf (rowAt panels (16 * length row) (c / 16)) (length row) (c % 16) in
+    nearestFrom 0 (tabulate (λ c. scoreFrom rownorm (getD norms c nan) (dotOf row (column c))) (length norms)) nothingYet
 
 -- how long the slices of `assign_rows` are, with the rows' norms worked out
 abbrev pub Assignable : ℕ → ℕ → List Float → List Float → List Float → ℕ → ℕ → Type 0

@@ -9,8 +9,8 @@ use Rattle.labels.specs.declared.nearest.Nearest.{Nearest}
 
 -- from the two norms and the dot: the norms added, twice the dot taken away; what is below zero becomes +0.0, and a NaN stays
 unfoldable pub scoreFrom : Float → Float → Float → Float
-scoreFrom own other dot =
-    let raw = sub binary32 (add binary32 own other) (mul binary32 two32 dot) in
+scoreFrom rownorm norm dot =
+    let raw = sub binary32 (add binary32 rownorm norm) (mul binary32 two32 dot) in
     cond (lt raw zero32) zero32 raw
 
 unfoldable pub score : Row → Row → Float

@@ -83,12 +83,12 @@ pub fn label_rows(
         return LabelAnswer::Refused(number);
     }
     let n = labels.len();
-    let mut own = [0.0f32; 4096];
+    let mut norms = [0.0f32; 4096];
     let mut distances = [0.0f32; 4096];
-    nearest::compute_norms(values, wide, &mut own[..n]);
+    nearest::compute_norms(values, wide, &mut norms[..n]);
     nearest::assign_rows(
         values,
-        &own[..n],
+        &norms[..n],
         wide,
         centroids,
         clusters,

@@ -17,20 +17,6 @@ fn lane16(acc: &mut [f32; 16], x: f32, panel: &[f32], at: usize)
     }
 }
 
-// The dots of a row with the columns of a panel.
-pub fn dots16(row: &[f32], panel: &[f32]) -> [f32; 16]
-    requires { ⌜ 16 * length (now row) ≤ length (now panel) ⌝ }
-    ensures { λ r. ⌜ r ≡ dotsOf (now (row .entry)) (now (panel .entry)) ⌝ }
-{
-    let mut acc = [0.0f32; 16];
-    let mut i = 0usize;
-    while i < row.len() {
-        lane16(&mut acc, row[i], panel, 16 * i);
-        i += 1;
-    }
-    acc
-}
-
 // The dots of two rows with the columns of one panel.
 pub struct DotsPair {
     pub first: [f32; 16],

@@ -4,12 +4,13 @@ ghost use mathlib.Core.Bool.{_&&_};
 ghost use Prim.Native.Nat.{_+_, _-_, _*_, _/_, _≤_, _<_};
 ghost use lib.Dec.{eqb};
 ghost use lib.ListN.{length, getD, set};
-ghost use Rattle.sums.specs.Rows.{rowsFrom};
+ghost use lib.Ieee.{nan};
+ghost use Rattle.sums.specs.Rows.{rowsFrom, rowAt};
 ghost use Rattle.sums.specs.Tables.{tabulate};
 ghost use Rattle.sums.specs.Refusals.{sameAll};
 ghost use Rattle.sums.specs.Sums.{infinity as Sums·infinity, normOf};
 ghost use Rattle.labels.specs.Label.{scoreFrom, better as Label·better, nearests, labelsOf, distancesOf};
-ghost use Rattle.labels.specs.Inside.{normsOf, scanned, byPanels, foundBy, Assignable};
+ghost use Rattle.labels.specs.Inside.{normsOf, scanned, byPanels, Assignable};
 use crate::lanes;
 use sums::numbers;
 use sums::rooms;
@@ -26,10 +27,10 @@ struct NearestPair {
     second: Nearest,
 }
 
-fn score(own: f32, other: f32, dot: f32) -> f32
-    ensures { λ r. ⌜ r ≡ scoreFrom own other dot ⌝ }
+fn score(rownorm: f32, norm: f32, dot: f32) -> f32
+    ensures { λ r. ⌜ r ≡ scoreFrom rownorm norm dot ⌝ }
 {
-    let raw = (own + other) - (2.0f32 * dot);
+    let raw = (rownorm + norm) - (2.0f32 * dot);
     if raw < 0.0f32 {
         return 0.0f32;
     }
@@ -40,59 +41,6 @@ fn infinity() -> f32
     ensures { λ r. ⌜ r ≡ Sums·infinity ⌝ }
 {
     f32::from_bits(0x7f80_0000)
-}
-
-// best, after the scores of `count` clusters from `from` on, whose dots with the row are the first of `dots`.
-fn scan16(
-    best: Nearest,
-    own: f32,
-    dots: &[f32; 16],
-    norms: &[f32],
-    from: usize,
-    count: usize,
-) -> Nearest
-    requires { ⌜ (count ≤ 16) × ((from + count ≤ length (now norms)) × (length (now norms) ≤ 65536)) ⌝ }
-    ensures { λ r. ⌜ r ≡ scanned own (now (norms .entry)) (now (dots .entry)) from count best ⌝ }
-{
-    let mut found = best;
-    let mut j = 0usize;
-    while j < count {
-        let c = from + j;
-        let s = score(own, norms[c], dots[j]);
-        if s < found.distance {
-            found = Nearest {
-                label: c as u16,
-                distance: s,
-            };
-        }
-        j += 1;
-    }
-    found
-}
-
-// The nearest of the centroids that are laid out in panels; `own` is the row's norm.
-fn find_nearest(row: &[f32], own: f32, panels: &[f32], norms: &[f32]) -> Nearest
-    requires { ⌜ (length (now row) ≤ 64) × (length (now norms) ≤ 64) ⌝ }
-    requires { ⌜ (length (now norms) + 15) / 16 * (16 * length (now row)) ≤ length (now panels) ⌝ }
-    ensures { λ r. ⌜ r ≡ byPanels (now (row .entry)) own (now (panels .entry)) (now (norms .entry)) ⌝ }
-{
-    let k = norms.len();
-    let wide = 16 * row.len();
-    let mut best = Nearest {
-        label: 0,
-        distance: infinity(),
-    };
-    let mut from = 0usize;
-    let mut at = 0usize;
-    while from < k {
-        let count = numbers::least(k - from, 16);
-        let end = at + wide;
-        let dots = lanes::dots16(row, &panels[at..end]);
-        best = scan16(best, own, &dots, norms, from, count);
-        from += count;
-        at = end;
-    }
-    best
 }
 
 // best, or the cluster where its score is below.
@@ -111,16 +59,16 @@ fn better(best: Nearest, cluster: u16, s: f32) -> Nearest
 // Two rows' searches side by side, neither waiting for the other.
 fn scan16_pair(
     best: NearestPair,
-    own: f32,
-    other: f32,
+    rownorm: f32,
+    secondnorm: f32,
     dots: lanes::DotsPair,
     norms: &[f32],
     from: usize,
     count: usize,
 ) -> NearestPair
     requires { ⌜ (count ≤ 16) × ((from + count ≤ length (now norms)) × (length (now norms) ≤ 65536)) ⌝ }
-    ensures { λ r. ⌜ r .first ≡ scanned own (now (norms .entry)) (dots .first) from count (best .first) ⌝ }
-    ensures { λ r. ⌜ r .second ≡ scanned other (now (norms .entry)) (dots .second) from count (best .second) ⌝ }
+    ensures { λ r. ⌜ r .first ≡ scanned rownorm (now (norms .entry)) (dots .first) from count (best .first) ⌝ }
+    ensures { λ r. ⌜ r .second ≡ scanned secondnorm (now (norms .entry)) (dots .second) from count (best .second) ⌝ }
 {
     let first = dots.first;
     let second = dots.second;
@@ -129,8 +77,8 @@ fn scan16_pair(
     let mut j = 0usize;
     while j < count {
         let c = from + j;
-        a = better(a, c as u16, score(own, norms[c], first[j]));
-        b = better(b, c as u16, score(other, norms[c], second[j]));
+        a = better(a, c as u16, score(rownorm, norms[c], first[j]));
+        b = better(b, c as u16, score(secondnorm, norms[c], second[j]));
         j += 1;
     }
     NearestPair {
@@ -139,19 +87,19 @@ fn scan16_pair(
     }
 }
 
-// The nearest of each of two rows, a panel being read once for both; `own` and `other` are their norms.
+// The nearest of each of two rows, a panel being read once for both; `rownorm` and `secondnorm` are their norms.
 fn find_nearest_pair(
     row: &[f32],
     second: &[f32],
-    own: f32,
-    other: f32,
+    rownorm: f32,
+    secondnorm: f32,
     panels: &[f32],
     norms: &[f32],
 ) -> NearestPair
     requires { ⌜ (length (now second) ≡ length (now row)) × ((length (now row) ≤ 64) × (length (now norms) ≤ 64)) ⌝ }
     requires { ⌜ (length (now norms) + 15) / 16 * (16 * length (now row)) ≤ length (now panels) ⌝ }
-    ensures { λ r. ⌜ r .first ≡ byPanels (now (row .entry)) own (now (panels .entry)) (now (norms .entry)) ⌝ }
-    ensures { λ r. ⌜ r .second ≡ byPanels (now (second .entry)) other (now (panels .entry)) (now (norms .entry)) ⌝ }
+    ensures { λ r. ⌜ r .first ≡ byPanels (now (row .entry)) rownorm (now (panels .entry)) (now (norms .entry)) ⌝ }
+    ensures { λ r. ⌜ r .second ≡ byPanels (now (second .entry)) secondnorm (now (panels .entry)) (now (norms .entry)) ⌝ }
 {
     let k = norms.len();
     let wide = 16 * row.len();
@@ -169,7 +117,7 @@ fn find_nearest_pair(
         let count = numbers::least(k - from, 16);
         let end = at + wide;
         let dots = lanes::dots16_pair(row, second, &panels[at..end]);
-        best = scan16_pair(best, own, other, dots, norms, from, count);
+        best = scan16_pair(best, rownorm, secondnorm, dots, norms, from, count);
         from += count;
         at = end;
     }
@@ -212,10 +160,10 @@ fn put(labels: &mut [u16], distances: &mut [f32], i: usize, found: Nearest, same
     stands
 }
 
-// Labels and distances of the rows, the centroids being laid out in panels.
+// Labels and distances of the rows, the centroids being laid out in panels. Two rows go at a time, and an odd last one with itself.
 fn assign_by_panels(
     values: &[f32],
-    own: &[f32],
+    rownorms: &[f32],
     dim: usize,
     panels: &[f32],
     norms: &[f32],
@@ -223,12 +171,12 @@ fn assign_by_panels(
     distances: &mut [f32],
 ) -> bool
     requires { ⌜ (length (now values) ≡ length (now labels) * dim)
-        × ((length (now distances) ≡ length (now labels)) × (length (now own) ≡ length (now labels))) ⌝ }
+        × ((length (now distances) ≡ length (now labels)) × (length (now rownorms) ≡ length (now labels))) ⌝ }
     requires { ⌜ (dim ≤ 64) × ((length (now norms) ≤ 64) × ((length (now norms) + 15) / 16 * (16 * dim) ≤ length (now panels))) ⌝ }
-    ensures { λ _. ⌜ (let found = foundBy dim (now (values .entry)) (now (own .entry)) (now (panels .entry)) (now (norms .entry)) in
-        now (labels .exit) ≡ tabulate (λ i. found i .label) (length (now (labels .entry)))) ⌝ }
-    ensures { λ _. ⌜ (let found = foundBy dim (now (values .entry)) (now (own .entry)) (now (panels .entry)) (now (norms .entry)) in
-        now (distances .exit) ≡ tabulate (λ i. found i .distance) (length (now (labels .entry)))) ⌝ }
+    ensures { λ _. ⌜ now (labels .exit) ≡ tabulate (λ i. byPanels (rowAt (now (values .entry)) dim i) (getD (now (rownorms .entry)) i nan)
+        (now (panels .entry)) (now (norms .entry)) .label) (length (now (labels .entry))) ⌝ }
+    ensures { λ _. ⌜ now (distances .exit) ≡ tabulate (λ i. byPanels (rowAt (now (values .entry)) dim i) (getD (now (rownorms .entry)) i nan)
+        (now (panels .entry)) (now (norms .entry)) .distance) (length (now (labels .entry))) ⌝ }
     ensures { λ r. ⌜ r ≡ sameAll (now (labels .entry)) (now (labels .exit)) ⌝ }
 {
     let mut same = true;
@@ -240,7 +188,7 @@ fn assign_by_panels(
         let end = mid + dim;
         let row = &values[at..mid];
         let second = &values[mid..end];
-        let found = find_nearest_pair(row, second, own[i], own[j], panels, norms);
+        let found = find_nearest_pair(row, second, rownorms[i], rownorms[j], panels, norms);
         same = put(labels, distances, i, found.first, same);
         same = put(labels, distances, j, found.second, same);
         i = j + 1;
@@ -248,8 +196,9 @@ fn assign_by_panels(
     if i < labels.len() {
         let at = i * dim;
         let end = at + dim;
-        let found = find_nearest(&values[at..end], own[i], panels, norms);
-        return put(labels, distances, i, found, same);
+        let row = &values[at..end];
+        let found = find_nearest_pair(row, row, rownorms[i], rownorms[i], panels, norms);
+        return put(labels, distances, i, found.first, same);
     }
     same
 }
@@ -257,7 +206,7 @@ fn assign_by_panels(
 // Labels and distances of the rows; `panels` is room for the centroids' panels.
 fn assign_in(
     values: &[f32],
-    own: &[f32],
+    rownorms: &[f32],
     dim: usize,
     centroids: &[f32],
     k: usize,
@@ -265,7 +214,7 @@ fn assign_in(
     labels: &mut [u16],
     distances: &mut [f32],
 ) -> bool
-    requires { ⌜ Assignable dim k (now values) (now own) (now centroids) (length (now labels)) (length (now distances)) ⌝ }
+    requires { ⌜ Assignable dim k (now values) (now rownorms) (now centroids) (length (now labels)) (length (now distances)) ⌝ }
     requires { ⌜ length (now panels) ≡ (k + 15) / 16 * (16 * dim) ⌝ }
     ensures { λ _. ⌜ (let rows = rowsFrom dim (length (now (labels .entry))) (now (values .entry)) in
         now (labels .exit) ≡ labelsOf (nearests (rowsFrom dim k (now (centroids .entry))) rows)) ⌝ }
@@ -277,21 +226,29 @@ fn assign_in(
     let count = (k + 15) / 16;
     lanes::fill_panels(centroids, dim, k, count, panels);
     compute_norms(centroids, dim, &mut lengths[..k]);
-    assign_by_panels(values, own, dim, panels, &lengths[..k], labels, distances)
+    assign_by_panels(
+        values,
+        rownorms,
+        dim,
+        panels,
+        &lengths[..k],
+        labels,
+        distances,
+    )
 }
 
 // Labels and distances of the rows; true exactly where every label is the one that stood there. Few and short centroids get little room,
 // since the room is cleared in every call.
 pub fn assign_rows(
     values: &[f32],
-    own: &[f32],
+    rownorms: &[f32],
     dim: usize,
     centroids: &[f32],
     k: usize,
     labels: &mut [u16],
     distances: &mut [f32],
 ) -> bool
-    requires { ⌜ Assignable dim k (now values) (now own) (now centroids) (length (now labels)) (length (now distances)) ⌝ }
+    requires { ⌜ Assignable dim k (now values) (now rownorms) (now centroids) (length (now labels)) (length (now distances)) ⌝ }
     ensures { λ _. ⌜ (let rows = rowsFrom dim (length (now (labels .entry))) (now (values .entry)) in
         now (labels .exit) ≡ labelsOf (nearests (rowsFrom dim k (now (centroids .entry))) rows)) ⌝ }
     ensures { λ _. ⌜ (let rows = rowsFrom dim (length (now (labels .entry))) (now (values .entry)) in
@@ -303,7 +260,7 @@ pub fn assign_rows(
         let mut little = [0.0f32; 512];
         return assign_in(
             values,
-            own,
+            rownorms,
             dim,
             centroids,
             k,
@@ -315,7 +272,7 @@ pub fn assign_rows(
     let mut room = rooms::row_room();
     assign_in(
         values,
-        own,
+        rownorms,
         dim,
         centroids,
         k,

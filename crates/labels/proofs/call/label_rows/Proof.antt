@@ -41,9 +41,9 @@ value-cells : (c : tie.Else1) → length (c .before .before .before .before .bef
 value-cells c = fits c .values-are ∙ ap (λ (n : ℕ). n * c .before .before .before .before .before .before .before .before .before .args .dim) (sym (same-cells (c .before .before .before .before) ∙ fits c .cells-are))
 
 -- the rows' norms, in front of their array
-own-holds : (c : tie.After-compute-norms) → let e = c .before .before in let a = e .before .before .before .before .before .before .before .before .before .args in
+norms-hold : (c : tie.After-compute-norms) → let e = c .before .before in let a = e .before .before .before .before .before .before .before .before .before .args in
     Front (countOf e) (c .compute-norms .last .1 .1 .0 ++ drop (countOf e) (replicate 4096 (ofBits binary32 0))) (normsOf (rowsFrom (a .dim) (countOf e) (a .values .now)))
-own-holds c =
+norms-hold c =
     let e = c .before .before in
     let a = e .before .before .before .before .before .before .before .before .before .args in
     front (c .compute-norms .ensures ∙ ap (λ (n : ℕ). normsOf (rowsFrom (a .dim) n (a .values .now))) (zeros e)) (norms-length (a .dim) (countOf e) (a .values .now)) _
@@ -62,8 +62,8 @@ returns c =
     let a = c .before .before .before .before .before .before .before .before .before .args in
     gives-refused (a .rows) (a .dim) (a .k) (a .values .now) (a .centroids .now) (length (a .labels .now)) (c .before .refusal .result) _ (asked (c .before)) (c .if1 .taken) (c .before .before .before .before .fill .ensures)
 
-array-borrow-prefix-own : tie.Need-array-borrow-prefix-own
-array-borrow-prefix-own c = in-room c
+array-borrow-prefix-norms : tie.Need-array-borrow-prefix-norms
+array-borrow-prefix-norms c = in-room c
 
 slice-aggregate-compute-norms : tie.Need-slice-aggregate-compute-norms
 slice-aggregate-compute-norms c = sym (zeros (c .before))
@@ -73,11 +73,11 @@ compute-norms-requires c κs =
     let e = c .before in
     value-cells e ∙ ap (λ (n : ℕ). n * e .before .before .before .before .before .before .before .before .before .args .dim) (sym (zeros e))
 
-array-share-prefix-own : tie.Need-array-share-prefix-own
-array-share-prefix-own c = own-holds (c .before) .fits
+array-share-prefix-norms : tie.Need-array-share-prefix-norms
+array-share-prefix-norms c = norms-hold (c .before) .fits
 
 slice-aggregate-assign-rows : tie.Need-slice-aggregate-assign-rows
-slice-aggregate-assign-rows c = sym (own-holds (c .before .before) .long)
+slice-aggregate-assign-rows c = sym (norms-hold (c .before .before) .long)
 
 array-borrow-prefix-distances : tie.Need-array-borrow-prefix-distances
 array-borrow-prefix-distances c = in-room (c .before .before .before .before .before)
@@ -88,7 +88,7 @@ slice-aggregate-assign-rows-2 c = sym (zeros (c .before .before .before .before 
 assign-rows-requires : tie.Need-assign-rows-requires
 assign-rows-requires c κs =
     let e = c .before .before .before .before .before .before in
-    ((fits e .some, (fits e .small, fits e .few)), (value-cells e, (fits e .centroids-are, (zeros e, own-holds (c .before .before .before .before) .is))))
+    ((fits e .some, (fits e .small, fits e .few)), (value-cells e, (fits e .centroids-are, (zeros e, norms-hold (c .before .before .before .before) .is))))
 
 same-length-2 : tie.Need-same-length-2
 same-length-2 c = search needs
@@ -108,10 +108,10 @@ label-rows-spec =
     refusal-requires
     same-length
     returns
-    array-borrow-prefix-own
+    array-borrow-prefix-norms
     slice-aggregate-compute-norms
     compute-norms-requires
-    array-share-prefix-own
+    array-share-prefix-norms
     slice-aggregate-assign-rows
     array-borrow-prefix-distances
     slice-aggregate-assign-rows-2

@@ -15,10 +15,10 @@ use Rattle.labels.proofs.nearest.assign_by_panels.Statement.{statement}
 use Rattle.labels.proofs.nearest.assign_by_panels.Tie as tie
 
 abbrev Inv-loop : tie.InvT-loop
-Inv-loop values own dim panels norms labels₀ distances₀ same₀ i₀ labels distances same i = Assigning (λ n. byPanels (rowAt values dim n) (getD own n nan) panels norms) labels₀ labels distances same i
+Inv-loop values rownorms dim panels norms labels₀ distances₀ same₀ i₀ labels distances same i = Assigning (λ n. byPanels (rowAt values dim n) (getD rownorms n nan) panels norms) labels₀ labels distances same i
 
 abbrev μ-loop : tie.MeasureT-loop
-μ-loop values own dim panels norms labels₀ distances₀ same₀ i₀ labels distances same i = length labels₀ - i
+μ-loop values rownorms dim panels norms labels₀ distances₀ same₀ i₀ labels distances same i = length labels₀ - i
 
 loop-holds : tie.Need-loop-holds Inv-loop μ-loop
 loop-holds c = assigning-start _ _ _ (c .before .before .before .before .before .before .pre .0 .1 .0)
@@ -109,7 +109,7 @@ loop-again c =
     let t = c .before .before .before .before .before .before .before .before .before .before .before .before .before .before .before .before .before .before .before .before in
     let z = t .before .before .before .before .before .before .before in
     let p = c .before .before .before .before .before .before .before .before .before .before .before .before .before .before .find-nearest-pair in
-    let f : ℕ → Nearest = λ n. byPanels (rowAt (z .args .values .now) (z .args .dim) n) (getD (z .args .own .now) n nan) (z .args .panels .now) (z .args .norms .now) in
+    let f : ℕ → Nearest = λ n. byPanels (rowAt (z .args .values .now) (z .args .dim) n) (getD (z .args .rownorms .now) n nan) (z .args .panels .now) (z .args .norms .now) in
     let l : t .loop .i + 1 < length (z .args .labels .now) = omega (arith, c .before .before .before .before .before .before .before .before .before .before .before .before .before .before .before .before .before .before .before .loop-test .taken, t .loop .inv .labels-sized) in
     let first : p .result .first ≡ f (t .loop .i) = p .ensures .0 ∙ rw add-sub-cancel-left in
     let second : p .result .second ≡ f (t .loop .i + 1) = p .ensures .1 ∙ rw (add-sub-cancel-left, add-one, suc-mul) in
@@ -127,29 +127,37 @@ mul-at-2 c = omega (arith, inside-last c)
 add-end-2 : tie.Need-add-end-2 Inv-loop μ-loop
 add-end-2 c = omega (arith, inside-last c)
 
-mul-find-nearest : tie.Need-mul-find-nearest Inv-loop μ-loop
-mul-find-nearest c = omega (arith, inside-last c)
+mul-row-2 : tie.Need-mul-row-2 Inv-loop μ-loop
+mul-row-2 c = omega (arith, inside-last c)
 
-sub-find-nearest : tie.Need-sub-find-nearest Inv-loop μ-loop
-sub-find-nearest c = search needs
+sub-row-2 : tie.Need-sub-row-2 Inv-loop μ-loop
+sub-row-2 c = search needs
 
-part-find-nearest-start : tie.Need-part-find-nearest-start Inv-loop μ-loop
-part-find-nearest-start c = search needs
+part-row-start-2 : tie.Need-part-row-start-2 Inv-loop μ-loop
+part-row-start-2 c = search needs
 
-part-find-nearest-end : tie.Need-part-find-nearest-end Inv-loop μ-loop
-part-find-nearest-end c = inside-last c
+part-row-end-2 : tie.Need-part-row-end-2 Inv-loop μ-loop
+part-row-end-2 c = inside-last c
 
-mul-find-nearest-2 : tie.Need-mul-find-nearest-2 Inv-loop μ-loop
-mul-find-nearest-2 c = search needs
+mul-find-nearest-pair-3 : tie.Need-mul-find-nearest-pair-3 Inv-loop μ-loop
+mul-find-nearest-pair-3 c = search needs
 
-shared-slice-read-find-nearest : tie.Need-shared-slice-read-find-nearest Inv-loop μ-loop
-shared-slice-read-find-nearest c = search needs
+shared-slice-read-find-nearest-pair-3 :
+    tie.Need-shared-slice-read-find-nearest-pair-3 Inv-loop μ-loop
+shared-slice-read-find-nearest-pair-3 c = search needs
 
-find-nearest-requires : tie.Need-find-nearest-requires Inv-loop μ-loop
-find-nearest-requires c κs =
-    let u = c .before .before in
+mul-find-nearest-pair-4 : tie.Need-mul-find-nearest-pair-4 Inv-loop μ-loop
+mul-find-nearest-pair-4 c = search needs
+
+shared-slice-read-find-nearest-pair-4 :
+    tie.Need-shared-slice-read-find-nearest-pair-4 Inv-loop μ-loop
+shared-slice-read-find-nearest-pair-4 c = search needs
+
+find-nearest-pair-requires-2 : tie.Need-find-nearest-pair-requires-2 Inv-loop μ-loop
+find-nearest-pair-requires-2 c κs =
+    let u = c .before .before .before in
     let z = u .before .before .before .before .before .before .before .before .before in
-    rw (part-length (u .before .before .loop .i * z .args .dim) (z .args .dim) (z .args .values .now) (inside-last u)) ((z .pre .1 .0, z .pre .1 .1 .0), z .pre .1 .1 .1)
+    rw (part-length (u .before .before .loop .i * z .args .dim) (z .args .dim) (z .args .values .now) (inside-last u)) ((refl, (z .pre .1 .0, z .pre .1 .1 .0)), z .pre .1 .1 .1)
 
 put-requires-3 : tie.Need-put-requires-3 Inv-loop μ-loop
 put-requires-3 c κs = search needs
@@ -162,12 +170,14 @@ same-length-2 c = search needs
 
 returns : tie.Need-returns Inv-loop μ-loop
 returns c =
-    let t = c .before .before .before .before .before .before .before .before .before .before .before .before in
+    let u = c .before .before .before .before .before .before .before .before .before .before .before in
+    let t = u .before .before in
+    let found = c .before .before .before .before .before .before .before .find-nearest-pair2 in
     let last = c .before .before .before .before .put3 .ensures in
     let n = length (t .before .before .before .before .before .before .before .args .labels .now) in
-    let l : t .loop .i < n = omega (arith, c .before .before .before .before .before .before .before .before .before .before .if1 .taken, t .loop .inv .labels-sized) in
-    let e : n ≤ t .loop .i + 1 = omega (arith, c .before .before .before .before .before .before .before .before .before .before .before .loop-test .left, t .loop .inv .labels-sized) in
-    let h = assigning-step (t .loop .inv) (c .before .before .before .before .before .before .before .find-nearest .result) l (c .before .before .before .before .before .before .before .find-nearest .ensures ∙ rw add-sub-cancel-left) (last .0 .0) (last .0 .1) (last .1) in
+    let l : t .loop .i < n = omega (arith, u .if1 .taken, t .loop .inv .labels-sized) in
+    let e : n ≤ t .loop .i + 1 = omega (arith, u .before .loop-test .left, t .loop .inv .labels-sized) in
+    let h = assigning-step (t .loop .inv) (found .result .first) l (found .ensures .0 ∙ rw add-sub-cancel-left) (last .0 .0) (last .0 .1) (last .1) in
     (assigning-labels h e, (assigning-distances h e, assigning-same h e))
 
 same-length-3 : tie.Need-same-length-3 Inv-loop μ-loop
@@ -214,13 +224,15 @@ assign-by-panels-spec =
     loop-again
     mul-at-2
     add-end-2
-    mul-find-nearest
-    sub-find-nearest
-    part-find-nearest-start
-    part-find-nearest-end
-    mul-find-nearest-2
-    shared-slice-read-find-nearest
-    find-nearest-requires
+    mul-row-2
+    sub-row-2
+    part-row-start-2
+    part-row-end-2
+    mul-find-nearest-pair-3
+    shared-slice-read-find-nearest-pair-3
+    mul-find-nearest-pair-4
+    shared-slice-read-find-nearest-pair-4
+    find-nearest-pair-requires-2
     put-requires-3
     same-length
     same-length-2

@@ -66,9 +66,9 @@ assign-by-panels-requires : tie.Need-assign-by-panels-requires
 assign-by-panels-requires c κs =
     let z = start (c .before .before .before .before .before .before .before .before .before) in
     let q = lengths-hold (c .before .before .before .before .before) .long in
-    let own : length (z .args .own .now) ≡ length (z .args .labels .now) = ap length (z .pre .0 .1 .1 .1 .1) ∙ norms-length _ _ _ in
+    let normed : length (z .args .rownorms .now) ≡ length (z .args .labels .now) = ap length (z .pre .0 .1 .1 .1 .1) ∙ norms-length _ _ _ in
     let room : length (c .before .before .before .before .before .before .before .before .before .fill-panels .last .1 .1 .1 .1 .0) ≡ panelCells z = ap length (panels-are (c .before .before .before .before .before .before .before .before .before)) ∙ panels-length _ _ _ _ in
-    ((z .pre .0 .1 .0, (z .pre .0 .1 .1 .1 .0, own)), (z .pre .0 .0 .1 .0, (rw q (z .pre .0 .0 .1 .1), rw q (le-of-eq (sym room)))))
+    ((z .pre .0 .1 .0, (z .pre .0 .1 .1 .1 .0, normed)), (z .pre .0 .0 .1 .0, (rw q (z .pre .0 .0 .1 .1), rw q (le-of-eq (sym room)))))
 
 same-length : tie.Need-same-length
 same-length c = c .before .before .before .before .before .before .before .before .before .before .before .before .before .before .fill-panels .kept .1 .1 .1 .1 .0
@@ -83,7 +83,7 @@ returns : tie.Need-returns
 returns c =
     let z = start (c .before .before .before .before .before .before .before .before .before .before .before .before .before .before) in
     let a = z .args in
-    by-centroids (a .dim) (a .k) (a .values .now) (a .own .now) (a .centroids .now) (length (a .labels .now)) (length (a .distances .now)) (z .pre .0) _ _ _ _ (panelCells z) (le-of-eq refl) refl (panels-are (c .before .before .before .before .before .before .before .before .before .before .before .before .before .before)) (lengths-hold (c .before .before .before .before .before .before .before .before .before .before) .is) (c .before .before .before .before .assign-by-panels .ensures)
+    by-centroids (a .dim) (a .k) (a .values .now) (a .rownorms .now) (a .centroids .now) (length (a .labels .now)) (length (a .distances .now)) (z .pre .0) _ _ _ _ (panelCells z) (le-of-eq refl) refl (panels-are (c .before .before .before .before .before .before .before .before .before .before .before .before .before .before)) (lengths-hold (c .before .before .before .before .before .before .before .before .before .before) .is) (c .before .before .before .before .assign-by-panels .ensures)
 
 pub assign-in-spec : {M : Type 1} → statement M
 assign-in-spec =

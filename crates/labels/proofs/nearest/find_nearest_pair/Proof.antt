@@ -13,10 +13,10 @@ use Rattle.labels.proofs.nearest.find_nearest_pair.Statement.{statement
 use Rattle.labels.proofs.nearest.find_nearest_pair.Tie as tie
 
 abbrev Inv-loop : tie.InvT-loop
-Inv-loop row second own other panels norms k wide best₀ from₀ at₀ best from at = (from ≤ k) × ((from < k → from % 16 ≡ 0) × ((at ≡ (from + 15) / 16 * (16 * length row)) × ((best .first ≡ nearestFrom 0 (tabulate (panelScore row own panels norms) from) nothingYet) × (best .second ≡ nearestFrom 0 (tabulate (panelScore second other panels norms) from) nothingYet))))
+Inv-loop row second rownorm secondnorm panels norms k wide best₀ from₀ at₀ best from at = (from ≤ k) × ((from < k → from % 16 ≡ 0) × ((at ≡ (from + 15) / 16 * (16 * length row)) × ((best .first ≡ nearestFrom 0 (tabulate (panelScore row rownorm panels norms) from) nothingYet) × (best .second ≡ nearestFrom 0 (tabulate (panelScore second secondnorm panels norms) from) nothingYet))))
 
 abbrev μ-loop : tie.MeasureT-loop
-μ-loop row second own other panels norms k wide best₀ from₀ at₀ best from at = k - from
+μ-loop row second rownorm secondnorm panels norms k wide best₀ from₀ at₀ best from at = k - from
 
 mul-wide : tie.Need-mul-wide Inv-loop μ-loop
 mul-wide c = search needs
@@ -86,8 +86,8 @@ loop-again c =
         (
           rw (g, add-one, suc-mul) (omega arith),
           (
-            panel-more (a .row .now) (a .own) (a .panels .now) (a .norms .now) _ (t .loop .from) n (t .loop .at) wide _ _ z small refl (t .loop .inv .1 .1 .0) (c .before .dots16-pair .ensures .0) (t .loop .inv .1 .1 .1 .0) (c .scan16-pair .ensures .0),
-            panel-more (a .second .now) (a .other) (a .panels .now) (a .norms .now) _ (t .loop .from) n (t .loop .at) wide _ _ z small w (t .loop .inv .1 .1 .0) (c .before .dots16-pair .ensures .1) (t .loop .inv .1 .1 .1 .1) (c .scan16-pair .ensures .1),
+            panel-more (a .row .now) (a .rownorm) (a .panels .now) (a .norms .now) _ (t .loop .from) n (t .loop .at) wide _ _ z small refl (t .loop .inv .1 .1 .0) (c .before .dots16-pair .ensures .0) (t .loop .inv .1 .1 .1 .0) (c .scan16-pair .ensures .0),
+            panel-more (a .second .now) (a .secondnorm) (a .panels .now) (a .norms .now) _ (t .loop .from) n (t .loop .at) wide _ _ z small w (t .loop .inv .1 .1 .0) (c .before .dots16-pair .ensures .1) (t .loop .inv .1 .1 .1 .1) (c .scan16-pair .ensures .1),
           ),
         ),
       ),
@@ -98,7 +98,7 @@ returns c =
     let t = c .before in
     let a = t .before .before .before .before .before .before .args in
     let e : length (a .norms .now) ≡ t .loop .from = omega arith in
-    (rw (panel-scores (a .row .now) (a .own) (a .panels .now) (a .norms .now), e) (t .loop .inv .1 .1 .1 .0), rw (panel-scores (a .second .now) (a .other) (a .panels .now) (a .norms .now), e) (t .loop .inv .1 .1 .1 .1))
+    (rw (panel-scores (a .row .now) (a .rownorm) (a .panels .now) (a .norms .now), e) (t .loop .inv .1 .1 .1 .0), rw (panel-scores (a .second .now) (a .secondnorm) (a .panels .now) (a .norms .now), e) (t .loop .inv .1 .1 .1 .1))
 
 pub find-nearest-pair-spec : {M : Type 1} → statement M
 find-nearest-pair-spec =

@@ -8,10 +8,10 @@ use Rattle.labels.proofs.nearest.scan16_pair.Statement.{statement}
 use Rattle.labels.proofs.nearest.scan16_pair.Tie as tie
 
 abbrev Inv-loop : tie.InvT-loop
-Inv-loop own other norms from count first second a₀ b₀ j₀ a b j = (j ≤ count) × ((a ≡ Scanned a₀ own first norms from j) × (b ≡ Scanned b₀ other second norms from j))
+Inv-loop rownorm secondnorm norms from count first second a₀ b₀ j₀ a b j = (j ≤ count) × ((a ≡ Scanned a₀ rownorm first norms from j) × (b ≡ Scanned b₀ secondnorm second norms from j))
 
 abbrev μ-loop : tie.MeasureT-loop
-μ-loop own other norms from count first second a₀ b₀ j₀ a b j = count - j
+μ-loop rownorm secondnorm norms from count first second a₀ b₀ j₀ a b j = count - j
 
 loop-holds : tie.Need-loop-holds Inv-loop μ-loop
 unfolding nearestFrom
