@@ -43,6 +43,11 @@ pub fn as_long(rounds: usize, mut ours: impl FnMut(), mut theirs: impl FnMut()) 
     (many / our_times, others / their_times)
 }
 
+/// Whether the command's words after the rounds all stand in the name of what is to be measured.
+pub fn wanted(name: &str) -> bool {
+    std::env::args().skip(2).all(|word| name.contains(&word))
+}
+
 /// Readings from -1 up to 1.
 pub fn values(random: &mut Random, count: usize) -> Vec<f32> {
     (0..count)

@@ -1,24 +1,29 @@
 //! Speed of the proved library against the oracle's scalar loops, side by side in one run on one thread: ratios of medians.
 //!
-//! `benchmark [ROUNDS]`
+//! `benchmark [ROUNDS] [WORD..]`: all, or what has these words in its name.
 
-use compare::timing::{rows_around, side_by_side, values};
+use compare::timing::{as_long, rows_around, side_by_side, values, wanted};
 use families::exported::{self, KMeansNumbers, KMeansWork};
 use oracle::calls;
 use oracle::random::Random;
 use oracle::slips::Slip;
 
 const ROWS: usize = 4_096;
+const TRAY: usize = 40;
 const SHAPES: [(usize, usize); 5] = [(3, 16), (16, 16), (16, 64), (64, 64), (64, 16)];
 
-fn labelling(rounds: usize, dim: usize, k: usize) {
+fn labelling(rounds: usize, count: usize, dim: usize, k: usize) {
+    let name = format!("labelling {count:4} rows dim {dim:2} k {k:2}");
+    if !wanted(&name) {
+        return;
+    }
     let random = &mut Random::new(1, 90, (dim * 100 + k) as u64);
-    let rows = values(random, ROWS * dim);
+    let rows = values(random, count * dim);
     let centroids = values(random, k * dim);
-    let numbers = (ROWS as u32, dim as u32, k as u32);
-    let mut mine = vec![0u16; ROWS];
-    let mut theirs = vec![0u16; ROWS];
-    let (proved, oracle) = side_by_side(
+    let numbers = (count as u32, dim as u32, k as u32);
+    let mut mine = vec![0u16; count];
+    let mut theirs = vec![0u16; count];
+    let (proved, oracle) = as_long(
         rounds,
         || {
             exported::label_rows(
@@ -39,10 +44,11 @@ fn labelling(rounds: usize, dim: usize, k: usize) {
     );
     assert_eq!(mine, theirs);
     println!(
-        "labelling dim {dim:2} k {k:2}: {:5.2}x the oracle; {:6.2} M rows/s, {:6.2} G multiply-adds/s",
+        "{name}: {:5.2}x the oracle; {:6.2} µs, {:6.2} M rows/s, {:6.2} G multiply-adds/s",
         oracle / proved,
-        ROWS as f64 / proved / 1e6,
-        (ROWS * dim * k) as f64 / proved / 1e9,
+        proved * 1e6,
+        count as f64 / proved / 1e6,
+        (count * dim * k) as f64 / proved / 1e9,
     );
 }
 
@@ -67,6 +73,10 @@ fn rows_of(random: &mut Random, dim: usize, k: usize, kind: Rows) -> Vec<f32> {
 
 /// K-means of 100 iterations, one restart, every row training.
 fn kmeans(rounds: usize, dim: usize, k: usize, kind: Rows) {
+    let name = format!("k-means dim {dim:2} k {k:2} {kind:?}");
+    if !wanted(&name) {
+        return;
+    }
     let random = &mut Random::new(1, 91, (dim * 100 + k) as u64);
     let rows = rows_of(random, dim, k, kind);
     let draws: Vec<u32> = (0..64).map(|_| random.below(1 << 30)).collect();
@@ -115,7 +125,7 @@ fn kmeans(rounds: usize, dim: usize, k: usize, kind: Rows) {
         trial == mine
     });
     println!(
-        "k-means dim {dim:2} k {k:2} {kind:?}: {:6.2}x the oracle; {:7.2} ms, nothing changes after iteration {}",
+        "{name}: {:6.2}x the oracle; {:7.2} ms, nothing changes after iteration {}",
         oracle / proved,
         proved * 1e3,
         settled.unwrap_or(100),
@@ -126,8 +136,10 @@ fn main() {
     let rounds = std::env::args()
         .nth(1)
         .map_or(101, |word| word.parse().expect("a number"));
-    for (dim, k) in SHAPES {
-        labelling(rounds, dim, k);
+    for rows in [ROWS, TRAY, 1] {
+        for (dim, k) in SHAPES {
+            labelling(rounds, rows, dim, k);
+        }
     }
     for kind in [Rows::Clustered, Rows::Shapeless, Rows::Repeating] {
         for (dim, k) in SHAPES {

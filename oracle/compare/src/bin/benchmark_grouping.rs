@@ -1,8 +1,8 @@
 //! Speed of grouping against the oracle, side by side in one run on one thread: ratios of medians, and of their sums.
 //!
-//! `benchmark_grouping [ROUNDS]`
+//! `benchmark_grouping [ROUNDS] [WORD..]`: all, or what has these words in its name.
 
-use compare::timing::{as_long, rows_around, values};
+use compare::timing::{as_long, rows_around, values, wanted};
 use families::exported::{self, GroupNumbers, GroupTold, GroupWork};
 use oracle::calls::{self, GroupingAccepted, GroupingLent, GroupingNumbers};
 use oracle::random::Random;
@@ -124,7 +124,7 @@ fn shown(seconds: f64) -> String {
 }
 
 /// Seconds of both sides for one batch.
-fn measure(rounds: usize, batch: &Batch, kind: Rows) -> (f64, f64) {
+fn measure(rounds: usize, batch: &Batch, name: &str) -> (f64, f64) {
     let numbers = &batch.numbers;
     let mut work = GroupWork::new(numbers.rows as usize, numbers.dim as usize, 0.0);
     let (mut mine, mut others) = (batch.results(), batch.results());
@@ -141,10 +141,7 @@ fn measure(rounds: usize, batch: &Batch, kind: Rows) -> (f64, f64) {
     );
     assert_eq!(mine, others);
     println!(
-        "grouping {:4} rows dim {:2} branching {:2} {kind:?}: {:6.2}x the oracle; {} to {}, {} groups, {} splits",
-        numbers.rows,
-        numbers.dim,
-        numbers.branching,
+        "{name}: {:6.2}x the oracle; {} to {}, {} groups, {} splits",
         oracle / proved,
         shown(proved),
         shown(oracle),
@@ -167,15 +164,19 @@ fn main() {
         let mut all = (0.0, 0.0);
         for (rows, dim) in SHAPES {
             for branching in BRANCHINGS {
+                let name =
+                    format!("grouping {rows:4} rows dim {dim:2} branching {branching:2} {kind:?}");
                 // Rows at the limit are one group, and nothing is split.
-                if rows <= limit(branching) as usize {
+                if rows <= limit(branching) as usize || !wanted(&name) {
                     continue;
                 }
                 let batch = Batch::new(rows, dim, branching, kind);
-                let (proved, oracle) = measure(rounds, &batch, kind);
+                let (proved, oracle) = measure(rounds, &batch, &name);
                 all = (all.0 + proved, all.1 + oracle);
             }
         }
-        println!("{kind:?} all together: {:.2}x the oracle", all.1 / all.0);
+        if all != (0.0, 0.0) {
+            println!("{kind:?} all together: {:.2}x the oracle", all.1 / all.0);
+        }
     }
 }
