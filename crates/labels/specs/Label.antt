@@ -1,5 +1,5 @@
 -- 01, 'Sums in stated order', score and label: a row against the centroids. Only this one row is read, so other rows never change its label.
-use mathlib.Core.Bool.{Bool, cond}
+use mathlib.Core.Bool.{cond}
 use mathlib.Core.List.{List, [], _∷_, map}
 use Prim.Native.Nat.{ℕ, suc}
 use lib.Ieee.{Float, binary32, add, sub, mul, lt}

@@ -8,7 +8,7 @@ ghost use lib.Ieee.{nan};
 ghost use Rattle.sums.specs.Rows.{rowsFrom, rowAt};
 ghost use Rattle.sums.specs.Tables.{tabulate};
 ghost use Rattle.sums.specs.Refusals.{sameAll};
-ghost use Rattle.sums.specs.Sums.{infinity as Sums·infinity, normOf};
+ghost use Rattle.sums.specs.Sums.{infinity as Sums·infinity};
 ghost use Rattle.labels.specs.Label.{scoreFrom, better as Label·better, nearests, labelsOf, distancesOf};
 ghost use Rattle.labels.specs.Inside.{normsOf, scanned, byPanels, Assignable};
 use crate::lanes;

@@ -1,10 +1,10 @@
-use Prim.Native.Nat.{ℕ, _≤_, _+_, _*_, _/_}
+use Prim.Native.Nat.{ℕ, _+_, _*_, _/_}
 use mathlib.Core.Path.{_≡_, refl, sym, ap, _∙_}
-use mathlib.Core.List.{List, _++_}
+use mathlib.Core.List.{_++_}
 use native.Mathlib.Nat.{le-of-eq}
 use lib.ListN.{length, take, drop, replicate}
 use lib.Seq.{length-take-le}
-use lib.Ieee.{Float, binary32, ofBits}
+use lib.Ieee.{binary32, ofBits}
 use Rattle.sums.specs.Rows.{rowsFrom}
 use Rattle.labels.specs.Panels.{panelsOf}
 use Rattle.labels.specs.Inside.{normsOf}
