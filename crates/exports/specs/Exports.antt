@@ -69,6 +69,3 @@ abbrev pub groupAnswer : ℕ → ℕ → ℕ → ℕ → Float → ℕ → List 
 groupAnswer rows dim limit branching weight budget draws values order ends means gathered training =
     groupingCall rows dim (record { limit = limit; branching = branching; weight = weight; budget = budget }) draws values
     (length order ∷ length ends ∷ length means ∷ length gathered ∷ length training ∷ [])
-
-abbrev pub meansOf : ℕ → List Row → Groups → List Float
-meansOf dim rows g = flatMap (meanOf dim rows) (g .groups)

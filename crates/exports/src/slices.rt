@@ -1,6 +1,6 @@
 // The calls over typed slices, for hosts that hold floats, and for comparisons.
 ghost use mathlib.Core.Path.{_≡_};
-ghost use mathlib.Core.List.{List, [], _∷_, flatten};
+ghost use mathlib.Core.List.{List, [], _∷_, flatten, flatMap};
 ghost use Prim.Native.Nat.{ℕ};
 ghost use lib.ListN.{length};
 ghost use lib.Ieee.{Float};
@@ -11,8 +11,8 @@ ghost use Rattle.labels.specs.Call.{labelCall as Call·labelCall};
 ghost use Rattle.kmeans.specs.KMeans.{Result};
 ghost use Rattle.kmeans.specs.Call.{kmeansCall, told as kmeansTold};
 ghost use Rattle.grouping.specs.Answers.{told as groupsTold};
-ghost use Rattle.grouping.specs.Groups.{Groups, endsFrom};
-ghost use Rattle.exports.specs.Exports.{codeOf, configOf, groupAnswer, meansOf, figureOf};
+ghost use Rattle.grouping.specs.Groups.{Groups, endsFrom, meanOf};
+ghost use Rattle.exports.specs.Exports.{codeOf, configOf, groupAnswer, figureOf};
 use grouping::config::GroupingConfig;
 use grouping::waiting::GroupingAnswer;
 use kmeans::call::KMeansAnswer;
@@ -160,7 +160,8 @@ pub extern "C" fn families_group(
         (now (order .entry)) (now (ends .entry)) (now (means .entry)) (now (gathered .entry)) (now (training .entry)) in
         (now (order .exit) ≡ cellsOf blankCell (length (now (order .entry))) (λ (g : Groups). flatten (g .groups)) answer)
         × ((now (ends .exit) ≡ cellsOf blankCell (length (now (ends .entry))) (λ (g : Groups). endsFrom 0 (g .groups)) answer)
-        × (now (means .exit) ≡ cellsOf zero32 (length (now (means .entry))) (meansOf dim (rowsFrom dim rows (now (values .entry)))) answer))) ⌝ }
+        × (now (means .exit) ≡ cellsOf zero32 (length (now (means .entry)))
+        (λ (g : Groups). flatMap (meanOf dim (rowsFrom dim rows (now (values .entry)))) (g .groups)) answer))) ⌝ }
     ensures { λ _. ⌜ Cleared zero32 (now (gathered .exit)) × Cleared zero32 (now (training .exit)) ⌝ }
 {
     let config = GroupingConfig {

@@ -1,27 +1,27 @@
 -- What balancing promises of every part, and that no row is lost or doubled. Assumes nothing.
-use mathlib.Core.Path.{_≡_, refl}
-use mathlib.Core.List.{List, [], _∷_}
-use mathlib.Core.Bool.{true, false}
-use Prim.Native.Nat.{ℕ, zero, suc, _≤_, _<_, min}
+use mathlib.Core.Path.{_≡_}
+use mathlib.Core.List.{List, []}
+use mathlib.Core.Bool.{true}
+use Prim.Native.Nat.{ℕ, zero, suc, _+_, _≤_, _<_, min}
 use native.Mathlib.Nat.{div-le-self}
 use native.Mathlib.Omega.{arith}
 use lib.Dec.{eqb}
-use lib.IntN.{negsuc}
 use lib.ListN.{length, getD}
-use lib.Ieee.{Float, fin, lt, add, mul, ofInt, toUnsigned}
-use Rattle.sums.specs.Tables.{upTo}
+use lib.Ieee.{Float, lt}
 use Rattle.sums.specs.Rows.{Row}
-use Rattle.sums.specs.Sums.{zero32, one32, apartOf, sumFrom}
+use Rattle.sums.specs.Sums.{zero32}
 use Rattle.sums.specs.Cells.{Below}
 use Rattle.sums.proofs.Tables.{length-tab}
 use Rattle.sums.proofs.Weighs.{one, countOf, Same}
+use Rattle.sums.proofs.Counts.{Distinct}
 use Rattle.grouping.specs.Parts.{having, gathered, sizesOf, flat}
-use Rattle.grouping.specs.Balance.{share, allowed, seek, closestFrom, closestOf, toward, balanced, moves, balance}
+use Rattle.grouping.specs.Balance.{share, allowed, toward, balanced, moves, balance}
 use Rattle.grouping.proofs.Rounds.{Balanced}
 use Rattle.grouping.proofs.Gathers.{gathered-weigh}
 use Rattle.grouping.proofs.Nearest.{toward-in}
 use Rattle.grouping.proofs.Allowances.{share-allowed}
-use Rattle.grouping.proofs.Fair.{overBy, shortBy, balanced-fair, balanced-length, balanced-same, moves-exactly}
+use Rattle.grouping.proofs.Fair.{overBy, shortBy, balanced-fair, balanced-length, balanced-same, balanced-over, balanced-short, moves-exactly}
+use Rattle.grouping.proofs.Changed.{changed, count-part, parts-changed}
 
 -- What is promised of the parts before and after, and of how many rows moved.
 pub record Promise (share most : ℕ) (old new : List (List ℕ)) (moved : ℕ) : Type 0 where
@@ -35,6 +35,11 @@ pub record Promise (share most : ℕ) (old new : List (List ℕ)) (moved : ℕ) 
   pub rest : (i : ℕ) → share ≤ length (getD old i []) → length (getD old i []) ≤ most → getD new i [] ≡ getD old i []
   -- exactly so many rows move: ten, or all that the parts have over the allowance, or all that they lack to the share, whichever is least
   pub count : moved ≡ min 10 (min (overBy most (sizesOf old)) (shortBy share (sizesOf old)))
+  -- what the parts have over the allowance goes down by as many, and so does what they lack to the share
+  pub over-left : overBy most (sizesOf new) + moved ≡ overBy most (sizesOf old)
+  pub short-left : shortBy share (sizesOf new) + moved ≡ shortBy share (sizesOf old)
+  -- and as many row numbers stand in another part than before, where none stands twice
+  pub numbers : Distinct (flat old) → changed old new ≡ moved
   -- no row is lost, doubled or made up
   pub rows : Same (flat new) (flat old)
   -- there are as many parts as before
@@ -49,6 +54,14 @@ balanced-promise which inside share most fair parts =
       over = λ i h. let f = balanced-fair which inside share most fair 10 parts i .high (omega arith) in ((λ x. f .2 (λ y. one (eqb y x))), f .0);
       rest = λ i h k. balanced-fair which inside share most fair 10 parts i .rest h k;
       count = moves-exactly which inside share most fair 10 parts;
+      over-left = balanced-over which inside share most fair 10 parts;
+      short-left = balanced-short which inside share most fair 10 parts;
+      numbers = λ once.
+          let new = balanced which share most 10 parts in
+          let alone : (i x : ℕ) → countOf x (getD new i []) ≤ 1
+          = λ i x. omega (arith, count-part x i new, balanced-same which inside share most fair 10 parts (λ y. one (eqb y x)), once x) in
+          let c = parts-changed share most fair parts new (balanced-length which inside share most fair 10 parts) (balanced-fair which inside share most fair 10 parts) alone in
+          omega (arith, c, balanced-short which inside share most fair 10 parts);
       rows = balanced-same which inside share most fair 10 parts;
       parts = balanced-length which inside share most fair 10 parts;
     }
@@ -78,32 +91,3 @@ gathered-same k rows labels e h f = gathered-weigh f k rows labels e h
 -- They are k parts.
 pub gathered-parts : (k : ℕ) (rows labels : List ℕ) → length (gathered k rows labels) ≡ k
 gathered-parts k rows labels = length-tab (λ c. having c rows labels) k
-
--- P3: sizes 40 and 0, weight 0.25: the allowance is 25, ten rows move, and the sizes are 30 and 10.
-abbrev quarter : Float
-quarter = fin false 1 (negsuc 1)
-
-p3-allowance : allowed 20 quarter ≡ 25
-unfolding allowed toUnsigned ofInt mul add
-p3-allowance = refl
-
-p3-sizes : sizesOf (balance [] [] 20 quarter (upTo 40 ∷ [] ∷ [])) ≡ 30 ∷ 10 ∷ []
-unfolding balanced seek closestOf closestFrom apartOf sumFrom allowed toUnsigned ofInt mul add lt
-p3-sizes = refl
-
-p3-moves : moves (toward [] []) 20 (allowed 20 quarter) 10 (upTo 40 ∷ [] ∷ []) ≡ 10
-unfolding moves seek closestOf closestFrom apartOf sumFrom allowed toUnsigned ofInt mul add lt
-p3-moves = refl
-
--- P4: sizes 30, 0 and 0, weight 1: the allowance is 20, ten rows move, and the sizes are 20, 10 and 0.
-p4-allowance : allowed 10 one32 ≡ 20
-unfolding allowed toUnsigned ofInt mul add
-p4-allowance = refl
-
-p4-sizes : sizesOf (balance [] [] 10 one32 (upTo 30 ∷ [] ∷ [] ∷ [])) ≡ 20 ∷ 10 ∷ 0 ∷ []
-unfolding balanced seek closestOf closestFrom apartOf sumFrom allowed toUnsigned ofInt mul add lt
-p4-sizes = refl
-
-p4-moves : moves (toward [] []) 10 (allowed 10 one32) 10 (upTo 30 ∷ [] ∷ [] ∷ []) ≡ 10
-unfolding moves seek closestOf closestFrom apartOf sumFrom allowed toUnsigned ofInt mul add lt
-p4-moves = refl

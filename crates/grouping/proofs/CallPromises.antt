@@ -16,7 +16,7 @@ use Rattle.sums.proofs.Refusing.{both, passed, lowest-none, lowest-when, lowest
 use Rattle.grouping.specs.declared.config.GroupingConfig.{GroupingConfig}
 use Rattle.grouping.specs.Groups.{Rule, ruleOf, Groups, partsOf, madeBy, waits, grouping, groupFrom}
 use Rattle.grouping.specs.Call.{rangesFit, lengthsFit, groupingRefusal, groupingCall}
-use Rattle.grouping.proofs.GroupPromises.{Listing, Passes, Small, Spent, Done, six-when, six-only, seven-when, seven-only, accepted-when, accepted-only, only-six-or-seven, budget-accepted, budget-six, accepted-listing}
+use Rattle.grouping.proofs.GroupPromises.{Listing, Passes, Small, Spent, Done, six-when, six-only, seven-when, seven-only, accepted-when, accepted-only, Ends, splits-only, splits-when, only-six-or-seven, budget-accepted, budget-six, accepted-listing}
 use Rattle.grouping.proofs.Calls.{Ranged, ranged}
 use Rattle.grouping.proofs.SplitPromises.{start, parts-kept, Splits, SplitPromise, each-split}
 
@@ -168,6 +168,21 @@ module _ (rows dim : ℕ) (config : GroupingConfig) (drawn : List ℕ) (values :
       to : (n : ℕ) → refusal ≡ n → Passes call → Passed × MeetsEnd
       to zero e p = (e, done (grouping rule (config .limit) (config .budget)) refl (rw (call-passed e) at p))
       to (suc n) e p = absurd (rw (call-refused n e) at p)
+
+  -- it comes there after s splits
+  abbrev pub EndsAfter : ℕ → Type 0
+  EndsAfter s = Ends (partsOf rule) (madeBy rule) (config .limit) (config .branching) (config .budget) 0 (start rule) s
+
+  -- Accepted with s splits exactly when it comes to where no group waits after s of them.
+  pub accepted-splits : (s : ℕ) → ((g : Groups) × ((call ≡ accepted g) × (g .splits ≡ s))) ↔ (Passed × EndsAfter s)
+  accepted-splits s = (
+    (λ t.
+        let e = accepted-exactly .0 (rw (t .1 .0) tt) .0 in
+        (e, rw (t .1 .1) at (splits-only (partsOf rule) (madeBy rule) (config .limit) (config .branching) (config .budget) 0 (start rule) (t .0) (sym (call-passed e) ∙ t .1 .0)))),
+    (λ t.
+        let w = splits-when (partsOf rule) (madeBy rule) (config .limit) (config .branching) (config .budget) 0 (start rule) s (t .1) in
+        (w .0, (call-passed (t .0) ∙ w .1 .0, w .1 .1))),
+  )
 
   -- No other number refuses a call.
   pub refused-otherwise : (number : ℕ) → call ≡ refused number → Number number

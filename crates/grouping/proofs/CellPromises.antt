@@ -9,20 +9,20 @@ use lib.Ieee.{Float, nan}
 use lib.ListN.{length, getD, take, drop, replicate}
 use Rattle.sums.specs.Rows.{Row, rowsFrom, rowAt}
 use Rattle.sums.specs.Sums.{zero32}
-use Rattle.sums.specs.Refusals.{Answer, accepted, refused, onAccepted, cellsOf, padded, blankCell}
+use Rattle.sums.specs.Refusals.{Answer, accepted, refused, onAccepted, cellsOf, padded, blankCell, Cleared}
 use Rattle.sums.proofs.Weighs.{countOf}
 use Rattle.sums.proofs.Pairs.{all-at}
-use Rattle.sums.proofs.Refusing.{same-cons, padded-all, padded-none, padded-at, padded-past}
+use Rattle.sums.proofs.Refusing.{same-cons, padded-all, padded-none, padded-length, padded-at, padded-past, cleared-same}
 use Rattle.grouping.specs.declared.config.GroupingConfig.{GroupingConfig}
 use Rattle.grouping.specs.declared.waiting.GroupingAnswer.{GroupingAnswer}
 use Rattle.grouping.specs.declared.waiting.GroupingAnswer.the-variants.{Accepted, Refused}
 use Rattle.grouping.specs.Groups.{Groups, meanOf, endsFrom}
 use Rattle.grouping.specs.Answers.{figures, told}
 use Rattle.grouping.specs.Call.{lengthsFit, Gives}
-use Rattle.grouping.proofs.Stretches.{flatten-part, flatMap-part, flatMap-length, padded-is, padded-length, ends-length, start-is, end-is}
+use Rattle.grouping.proofs.Stretches.{flatten-part, flatMap-part, flatMap-length, padded-is, ends-length, start-is, end-is}
 use Rattle.grouping.proofs.Averages.{mean-length}
 use Rattle.grouping.proofs.GroupPromises.{Sized, Listing, some-group}
-use Rattle.grouping.proofs.CallPromises.{call, passed-exactly, accepted-passed, call-listing}
+use Rattle.grouping.proofs.CallPromises.{call, passed-exactly, accepted-passed, EndsAfter, accepted-splits, call-listing}
 
 -- group i as a caller reads it: the stretch of the row order from the end before it, 0 for the first, up to its own end
 abbrev pub groupAt : List ℕ → List ℕ → ℕ → List ℕ
@@ -203,6 +203,13 @@ module _ (rows dim : ℕ) (config : GroupingConfig) (drawn : List ℕ) (values :
       → Means dim rows groups table order ends means
   call-means groups splits order ends means given = mean-cells (behind groups splits order ends means given)
 
+  -- The splits that it is told are those after which no group waited.
+  pub told-splits : (groups splits : ℕ) (order ends : List ℕ) (means : List Float) → Result (Accepted groups splits) order ends means
+      → EndsAfter rows dim config drawn values (orderCells ∷ endCells ∷ meanCells ∷ work) splits
+  told-splits groups splits order ends means given =
+      let b = behind groups splits order ends means given in
+      accepted-splits rows dim config drawn values (orderCells ∷ endCells ∷ meanCells ∷ work) splits .0 (b .g, (b .is, b .done)) .1
+
 -- ---- the answer and every cell follow from the call alone
 told-once : (r r′ : GroupingAnswer) → told r ≡ told r′ → r ≡ r′
 told-once (Accepted g s) (Accepted g′ s′) e =
@@ -212,9 +219,13 @@ told-once (Accepted g s) (Refused number) e = let z : _≡_ {A = ℕ} 0 1 = cc i
 told-once (Refused number) (Accepted g s) e = let z : _≡_ {A = ℕ} 0 1 = cc in absurd (omega arith)
 told-once (Refused number) (Refused number′) e = let z : number ≡ number′ = cc in rw z
 
--- Any two results that a call may give are the same: answer, row order, ends and means.
+-- Any two results that a call may give are the same: answer, row order, ends and means, and both work slices.
 pub one-answer : {answer : Answer Groups} {dim : ℕ} {rows : List Row} {o e m : ℕ} {r r′ : GroupingAnswer} {order order′ ends ends′ : List ℕ} {means means′ : List Float}
     → Gives answer dim rows o e m r order ends means → Gives answer dim rows o e m r′ order′ ends′ means′
-    → (r ≡ r′) × (order ≡ order′) × (ends ≡ ends′) × (means ≡ means′)
-one-answer {r = r} {r′ = r′} g g′ =
-    (told-once r r′ (g .result ∙ sym (g′ .result)), g .ordered ∙ sym (g′ .ordered), g .ended ∙ sym (g′ .ended), g .meant ∙ sym (g′ .meant))
+    → (gathered gathered′ training training′ : List Float) → Cleared zero32 gathered × Cleared zero32 training → Cleared zero32 gathered′ × Cleared zero32 training′
+    → length gathered ≡ length gathered′ → length training ≡ length training′
+    → ((r ≡ r′) × (order ≡ order′) × (ends ≡ ends′) × (means ≡ means′)) × ((gathered ≡ gathered′) × (training ≡ training′))
+one-answer {r = r} {r′ = r′} g g′ gathered gathered′ training training′ c c′ k l = (
+  (told-once r r′ (g .result ∙ sym (g′ .result)), g .ordered ∙ sym (g′ .ordered), g .ended ∙ sym (g′ .ended), g .meant ∙ sym (g′ .meant)),
+  (cleared-same zero32 gathered gathered′ (c .0) (c′ .0) k, cleared-same zero32 training training′ (c .1) (c′ .1) l),
+)

@@ -173,6 +173,28 @@ module _ (which : ℕ → List ℕ → ℕ) (within : (r : ℕ) (l : List ℕ) �
       go false true e d ih = omega (arith, none-over al (sizesOf ps) (rw sizes-length (ltb-false _ _ e)))
       go false false e d ih = omega (arith, none-over al (sizesOf ps) (rw sizes-length (ltb-false _ _ e)))
 
+  -- what is over the allowance, and what is short of the share, goes down by the rows moved
+  left-after : (f : ℕ → ℕ) → ((ps : List (List ℕ)) → giver al ps < length ps → taker sh ps < length ps → weigh f (sizesOf (round which sh al ps)) + 1 ≡ weigh f (sizesOf ps))
+      → (n : ℕ) (ps : List (List ℕ)) → weigh f (sizesOf (balanced which sh al n ps)) + moves which sh al n ps ≡ weigh f (sizesOf ps)
+  unfolding balanced moves
+  left-after f step zero ps = omega arith
+  left-after f step (suc n) ps = go (ltb (giver al ps) (length ps)) (ltb (taker sh ps) (length ps)) refl refl (left-after f step n (round which sh al ps))
+    where
+      go :
+          (a b : Bool) → ltb (giver al ps) (length ps) ≡ a → ltb (taker sh ps) (length ps) ≡ b →
+          weigh f (sizesOf (balanced which sh al n (round which sh al ps))) + moves which sh al n (round which sh al ps) ≡ weigh f (sizesOf (round which sh al ps)) →
+          weigh f (sizesOf (cond a (cond b (balanced which sh al n (round which sh al ps)) ps) ps)) + cond a (cond b (suc (moves which sh al n (round which sh al ps))) 0) 0 ≡ weigh f (sizesOf ps)
+      go true true e d ih = omega (arith, ih, step ps (ltb-true _ _ e) (ltb-true _ _ d))
+      go true false e d ih = omega arith
+      go false true e d ih = omega arith
+      go false false e d ih = omega arith
+
+  pub balanced-over : (n : ℕ) (ps : List (List ℕ)) → overBy al (sizesOf (balanced which sh al n ps)) + moves which sh al n ps ≡ overBy al (sizesOf ps)
+  balanced-over = left-after (λ n. n - al) round-over
+
+  pub balanced-short : (n : ℕ) (ps : List (List ℕ)) → shortBy sh (sizesOf (balanced which sh al n ps)) + moves which sh al n ps ≡ shortBy sh (sizesOf ps)
+  balanced-short = left-after (λ n. sh - n) round-short
+
   pub balanced-length : (n : ℕ) (ps : List (List ℕ)) → length (balanced which sh al n ps) ≡ length ps
   unfolding balanced
   balanced-length zero ps = refl

@@ -226,6 +226,52 @@ module _ (parts : ℕ → List ℕ → List (List ℕ)) (made : ℕ → List ℕ
   pub accepted-only : (left n : ℕ) (w : List (List ℕ)) (g : Groups) → by left n w ≡ accepted g → Done left n w
   accepted-only left n w g e = rw e at (group-ending left n w)
 
+  -- ---- how many splits an acceptance tells: those that were made before none waited
+  abbrev Counted : ℕ → ℕ → Answer Groups → Type 0
+  Counted left left′ (accepted g) = g .splits + left′ ≡ left
+  Counted left left′ (refused number) = ⊥
+
+  counted-list : (left left′ : ℕ) (l : List (List ℕ)) (a : Answer Groups) → Counted left left′ a → Counted left left′ (after l 0 a)
+  unfolding after onAccepted
+  counted-list left left′ l (accepted g) h = omega (arith, h)
+  counted-list left left′ l (refused number) h = h
+
+  counted-split : (left left′ : ℕ) (a : Answer Groups) → Counted left left′ a → Counted (suc left) left′ (after [] 1 a)
+  unfolding after onAccepted
+  counted-split left left′ (accepted g) h = omega (arith, h)
+  counted-split left left′ (refused number) h = h
+
+  comes-counted : {left n left′ n′ : ℕ} {w v : List (List ℕ)} (last : ℕ) → Comes left n w left′ n′ v → Counted left′ last (by left′ n′ v) → Counted left last (by left n w)
+  comes-counted last here h = h
+  comes-counted last (listing {left = left} {n = n} {g = g} {gs = gs} k c) h =
+      rw (group-list parts made limit branching n g gs left k) (counted-list left last (g ∷ []) _ (comes-counted last c h))
+  comes-counted last (splitting {left = left} {n = n} {g = g} {gs = gs} k l c) h =
+      rw (group-split parts made limit branching n g gs left k l) (counted-split left last _ (comes-counted last c h))
+
+  -- it comes to where none waits, after s splits
+  pub record Ends (left n : ℕ) (w : List (List ℕ)) (s : ℕ) : Type 0 where
+    pub left′ : ℕ
+    pub n′ : ℕ
+    pub comes : Comes left n w left′ n′ []
+    pub counted : s + left′ ≡ left
+
+  ends-counted : (left n : ℕ) (w : List (List ℕ)) (d : Done left n w) → Counted left (d .left′) (by left n w)
+  ends-counted left n w d = comes-counted (d .left′) (d .comes) (rw (group-end parts made limit branching (d .left′) (d .n′)) (omega arith))
+
+  -- Accepted with s splits exactly when it comes there after s.
+  pub splits-only : (left n : ℕ) (w : List (List ℕ)) (g : Groups) → by left n w ≡ accepted g → Ends left n w (g .splits)
+  splits-only left n w g e =
+      let d = accepted-only left n w g e in
+      record { left′ = d .left′; n′ = d .n′; comes = d .comes; counted = rw e at (ends-counted left n w d) }
+
+  pub splits-when : (left n : ℕ) (w : List (List ℕ)) (s : ℕ) → Ends left n w s → (g : Groups) × ((by left n w ≡ accepted g) × (g .splits ≡ s))
+  splits-when left n w s d =
+      go (by left n w) refl (ends-counted left n w (record { left′ = d .left′; n′ = d .n′; comes = d .comes }))
+    where
+      go : (a : Answer Groups) → by left n w ≡ a → Counted left (d .left′) a → (g : Groups) × ((by left n w ≡ accepted g) × (g .splits ≡ s))
+      go (accepted g) e h = (g, (e, omega (arith, h, d .counted)))
+      go (refused number) e h = absurd h
+
   -- No other number refuses.
   pub only-six-or-seven : (left n number : ℕ) (w : List (List ℕ)) → by left n w ≡ refused number → (number ≡ 6) ⊎ (number ≡ 7)
   only-six-or-seven left n number w e = go (rw e at (group-ending left n w))

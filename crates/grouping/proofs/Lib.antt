@@ -7,6 +7,7 @@ pub mod Seeks
 pub mod Moves
 pub mod Nearest
 pub mod Fair
+pub mod Changed
 pub mod Allowances
 pub mod Rounds
 pub mod BalancePromises

@@ -2,7 +2,7 @@
 use mathlib.Core.Path.{_≡_, refl, sym, ap, _∙_}
 use mathlib.Core.Bool.{Bool, true, false}
 use mathlib.Core.List.{List, [], _∷_, flatten}
-use Prim.Native.Nat.{ℕ, suc, _≤_, _<_}
+use Prim.Native.Nat.{ℕ, suc, _≤_, _<_, min}
 use native.Mathlib.Nat.{div-le-self}
 use native.Mathlib.Omega.{arith}
 use lib.Dec.{eqb}
@@ -17,9 +17,11 @@ use Rattle.sums.proofs.Counts.{Distinct, count-up, count-below}
 use Rattle.sums.proofs.Picks.{below-up}
 use Rattle.kmeans.specs.KMeans.{Result, kmeans, forGrouping}
 use Rattle.kmeans.proofs.Promises.{labels-below}
-use Rattle.grouping.specs.Parts.{gathered, flat}
+use Rattle.grouping.specs.Parts.{gathered, sizesOf, flat}
 use Rattle.grouping.specs.Balance.{share, allowed, moves, toward}
 use Rattle.grouping.specs.Groups.{Rule, balanceIf, partsOf, madeBy, waits}
+use Rattle.grouping.proofs.Fair.{overBy, shortBy}
+use Rattle.grouping.proofs.Changed.{changed}
 use Rattle.grouping.proofs.BalancePromises.{Promise, balance-promise, gathered-same, gathered-parts}
 use Rattle.grouping.proofs.GroupPromises.{Comes, one-flat, comes-within}
 
@@ -56,25 +58,24 @@ pub split-plain : (rule : Rule) (n : ℕ) (g : List ℕ) → lt zero32 (rule .we
 unfolding partsOf balanceIf
 split-plain rule n g e = rw e
 
+-- The labelled parts together hold the group's rows.
+labelled-kept : (rule : Rule) (n : ℕ) (g : List ℕ) → 0 < rule .branching → rule .branching ≤ length g → Same (flat (labelled rule n g)) g
+labelled-kept rule n g some enough =
+    let rows : length (rowsAt (rule .rows) g) ≡ length g = length-map g (λ i. getD (rule .rows) i []) in
+    let l = labels-below (rule .draws) n forGrouping (rule .branching) (rule .dim) (rowsAt (rule .rows) g) some (omega (arith, rows)) in
+    gathered-same (rule .branching) g (found rule n g .labels) (sym (l .0 ∙ rows)) (l .1)
+
 -- The parts of a split together hold the group's rows: none is lost, doubled or made up; and there are as many parts as branching.
 pub parts-kept : (rule : Rule) (n : ℕ) (g : List ℕ) → 0 < rule .branching → rule .branching ≤ length g → length g ≤ 4096
     → Same (flat (partsOf rule n g)) g × (length (partsOf rule n g) ≡ rule .branching)
 parts-kept rule n g some enough few = go (lt zero32 (rule .weight)) refl
   where
-    rows : length (rowsAt (rule .rows) g) ≡ length g
-    rows = length-map g (λ i. getD (rule .rows) i [])
-
-    labelled-same : Same (flat (labelled rule n g)) g
-    labelled-same =
-        let l = labels-below (rule .draws) n forGrouping (rule .branching) (rule .dim) (rowsAt (rule .rows) g) some (omega (arith, rows)) in
-        gathered-same (rule .branching) g (found rule n g .labels) (sym (l .0 ∙ rows)) (l .1)
-
     labelled-parts : length (labelled rule n g) ≡ rule .branching
     labelled-parts = gathered-parts (rule .branching) g (found rule n g .labels)
 
     go : (b : Bool) → lt zero32 (rule .weight) ≡ b → Same (flat (partsOf rule n g)) g × (length (partsOf rule n g) ≡ rule .branching)
-    go true e = let p = split-promise rule n g e few in ((λ f. p .rows f ∙ labelled-same f), p .parts ∙ labelled-parts)
-    go false e = rw (split-plain rule n g e) (labelled-same, labelled-parts)
+    go true e = let p = split-promise rule n g e few in ((λ f. p .rows f ∙ labelled-kept rule n g some enough f), p .parts ∙ labelled-parts)
+    go false e = rw (split-plain rule n g e) (labelled-kept rule n g some enough, labelled-parts)
 
 -- ---- the splits of a grouping
 
@@ -102,6 +103,9 @@ pub record SplitPromise (rule : Rule) (n : ℕ) (g : List ℕ) : Type 0 where
   -- balancing keeps its promise where the weight is above zero, and otherwise the parts are the labelled ones
   pub balanced : lt zero32 (rule .weight) ≡ true → Promise (shareOf rule g) (allowedOf rule g) (labelled rule n g) (partsOf rule n g) (movesOf rule n g)
   pub plain : lt zero32 (rule .weight) ≡ false → partsOf rule n g ≡ labelled rule n g
+  -- the row numbers that stand in another part than their label's are exactly the least of ten, the total over the allowance and the total short of the share
+  pub moved : lt zero32 (rule .weight) ≡ true → changed (labelled rule n g) (partsOf rule n g)
+      ≡ min 10 (min (overBy (allowedOf rule g) (sizesOf (labelled rule n g))) (shortBy (shareOf rule g) (sizesOf (labelled rule n g))))
 
 -- The group split weighs no more than the rows of the call.
 split-within : (rule : Rule) (limit budget n : ℕ) (g : List ℕ) → 0 < rule .branching → length (rule .rows) ≤ 4096 → Splits rule limit budget n g
@@ -128,4 +132,8 @@ each-split rule limit budget n g some few s =
       parts = k .1;
       balanced = λ above. split-promise rule n g above (omega arith);
       plain = λ e. split-plain rule n g e;
+      moved = λ above.
+          let p = split-promise rule n g above (omega arith) in
+          let once : Distinct (flat (labelled rule n g)) = λ x. omega (arith, labelled-kept rule n g some (s .enough) (λ y. one (eqb y x)), within (λ y. one (eqb y x)), count-up x rows) in
+          p .numbers once ∙ p .count;
     }

@@ -48,12 +48,6 @@ module _ {A : Type 0} where
       put-at (padded blank n xs) xs (replicate (length row) blank) (replicate m blank) (length xs) (length row) e refl (length-replicate (length row) blank) row
       ∙ sym (padded-is blank n m (xs ++ row) (rw length-append (omega arith)) ∙ append-assoc xs row (replicate m blank))
 
-  pub padded-length : (blank : A) (n : ℕ) (xs : List A) → length (padded blank n xs) ≡ n
-  unfolding padded
-  padded-length blank zero xs = refl
-  padded-length blank (suc n) [] = ap suc (padded-length blank n [])
-  padded-length blank (suc n) (x ∷ xs) = ap suc (padded-length blank n xs)
-
 module _ {A B : Type 0} (f : A → List B) where
   pub flatMap-snoc : (l : List A) (x : A) → flatMap f (l ++ (x ∷ [])) ≡ flatMap f l ++ f x
   unfolding flatMap

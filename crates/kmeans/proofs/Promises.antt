@@ -1,18 +1,26 @@
 -- What k-means promises beyond its contracts. Assumes nothing.
-use mathlib.Core.Path.{_≡_, sym, ap, _∙_}
-use mathlib.Core.List.{List}
-use Prim.Native.Nat.{ℕ, _≤_, _<_}
+use mathlib.Core.Path.{_≡_, refl, sym, ap, _∙_}
+use mathlib.Core.Bool.{Bool, true, false}
+use mathlib.Core.Logic.{_↔_, ⊎-elim}
+use mathlib.Core.List.{List, [], _∷_, flatten}
+use Prim.Native.Nat.{ℕ, zero, suc, _*_, _≤_, _<_}
 use native.Mathlib.Omega.{arith}
+use lib.Dec.{leb}
 use lib.Ieee.{Float}
 use lib.ListN.{length}
-use Rattle.sums.specs.Rows.{Row}
+use Rattle.sums.specs.Rows.{Row, rowsFrom}
+use Rattle.sums.specs.Sums.{zero32}
 use Rattle.sums.specs.Cells.{Below}
-use Rattle.sums.specs.Refusals.{Answer}
+use Rattle.sums.specs.Refusals.{Answer, accepted, refused, within, unless, onAccepted, cellsOf, blankCell, Cleared}
+use Rattle.sums.proofs.Rows.{rows-length}
+use Rattle.sums.proofs.Refusing.{padded-all, padded-length, cleared-same}
+use Rattle.sums.proofs.Whens.{not-both, fails-exactly, accepted-exactly as Whens·accepted-exactly, refused-by}
 use Rattle.kmeans.specs.declared.config.KMeansConfig.{KMeansConfig}
 use Rattle.kmeans.specs.declared.call.KMeansAnswer.{KMeansAnswer}
 use Rattle.kmeans.specs.declared.call.KMeansAnswer.the-variants.{Accepted, Refused}
 use Rattle.kmeans.specs.KMeans.{Result, kmeans}
-use Rattle.kmeans.specs.Call.{told, Gives}
+use Rattle.kmeans.specs.Call.{rangesFit, lengthsFit, kmeansRefusal, kmeansCall, told, Gives}
+use Rattle.kmeans.proofs.Calls.{fitting}
 use Rattle.kmeans.proofs.Clusters.{kmeans-clustered}
 
 -- ---- every row has a label, and where there is a cluster every label is a cluster's number
@@ -24,7 +32,7 @@ labels-below draws n config k dim rows some h = let c = kmeans-clustered draws n
 pub centroids-sized : (draws : List ℕ) (n : ℕ) (config : KMeansConfig) (k dim : ℕ) (rows : List Row) → k ≤ length rows → length (kmeans draws n config k dim rows .result .centroids) ≡ k
 centroids-sized draws n config k dim rows h = kmeans-clustered draws n config k dim rows h .centred
 
--- ---- the answer and every cell follow from the call alone: any two results that a call may give are the same
+-- ---- the answer and every cell follow from the call alone: any two results that a call may give are the same, the work slice too
 told-once : (r r′ : KMeansAnswer) → told r ≡ told r′ → r ≡ r′
 told-once (Accepted o n) (Accepted o′ n′) e =
     let z : _≡_ {A = Float × ℕ} (o, n) (o′, n′) = cc in
@@ -34,5 +42,91 @@ told-once (Refused number) (Accepted o n) e = let z : _≡_ {A = ℕ} 0 1 = cc i
 told-once (Refused number) (Refused number′) e = let z : number ≡ number′ = cc in rw z
 
 pub one-answer : {answer : Answer Result} {l c : ℕ} {r r′ : KMeansAnswer} {labels labels′ : List ℕ} {centroids centroids′ : List Float}
-    → Gives answer l c r labels centroids → Gives answer l c r′ labels′ centroids′ → (r ≡ r′) × ((labels ≡ labels′) × (centroids ≡ centroids′))
-one-answer {answer} {l} {c} {r} {r′} g g′ = (told-once r r′ (g .result ∙ sym (g′ .result)), (g .labelled ∙ sym (g′ .labelled), g .centred ∙ sym (g′ .centred)))
+    → Gives answer l c r labels centroids → Gives answer l c r′ labels′ centroids′
+    → (training training′ : List Float) → Cleared zero32 training → Cleared zero32 training′ → length training ≡ length training′
+    → (r ≡ r′) × ((labels ≡ labels′) × ((centroids ≡ centroids′) × (training ≡ training′)))
+one-answer {answer} {l} {c} {r} {r′} g g′ training training′ t t′ k =
+    (told-once r r′ (g .result ∙ sym (g′ .result)), (g .labelled ∙ sym (g′ .labelled), (g .centred ∙ sym (g′ .centred), cleared-same zero32 training training′ t t′ k)))
+
+-- ---- one call, with its settings, its draws, its readings one after the other, and the lengths of what is lent
+module _ (rows dim k : ℕ) (config : KMeansConfig) (draws : List ℕ) (values : List Float) (labelCells centroidCells trainingCells : ℕ) where
+  abbrev lent : List ℕ
+  lent = labelCells ∷ centroidCells ∷ trainingCells ∷ []
+
+  abbrev pub call : Answer Result
+  call = kmeansCall rows dim k config draws values lent
+
+  abbrev pub answer : Result
+  answer = kmeans draws 0 config k dim (rowsFrom dim rows values) .result
+
+  -- what a caller reads in the cells of a call that is told `Accepted`: a label below k for each row, and the values of k centroids
+  pub cells-below : (objective : Float) (restart : ℕ) (labels : List ℕ) (centroids : List Float) → Gives call labelCells centroidCells (Accepted objective restart) labels centroids
+      → ((length labels ≡ rows) × Below k labels) × (length centroids ≡ k * dim)
+  unfolding kmeansCall unless onAccepted cellsOf
+  cells-below objective restart labels centroids given = go (kmeansRefusal rows dim k config (length draws) (length values) lent) refl (given .result) (given .labelled) (given .centred)
+    where
+      go : (number : ℕ) → kmeansRefusal rows dim k config (length draws) (length values) lent ≡ number
+          → told (Accepted objective restart) ≡ onAccepted (λ (a : Result). (a .objective, a .restart)) (unless number (accepted answer))
+          → labels ≡ cellsOf blankCell labelCells (λ (a : Result). a .labels) (unless number (accepted answer))
+          → centroids ≡ cellsOf zero32 centroidCells (λ (a : Result). flatten (a .centroids)) (unless number (accepted answer))
+          → ((length labels ≡ rows) × Below k labels) × (length centroids ≡ k * dim)
+      go zero e t p q =
+          let f = fitting rows dim k config (length draws) (length values) labelCells centroidCells trainingCells e in
+          let sized : length (rowsFrom dim rows values) ≡ rows = rows-length dim rows values in
+          let b = labels-below draws 0 config k dim (rowsFrom dim rows values) (f .limits .0 .1 .0 .0) (omega (arith, sized, f .labels-are, f .limits .1 .0)) in
+          let is : labels ≡ answer .labels = p ∙ padded-all blankCell labelCells (answer .labels) (b .0 ∙ (sized ∙ sym (f .labels-are))) in
+          ((ap length is ∙ (b .0 ∙ sized), rw is (b .1)), ap length q ∙ (padded-length zero32 centroidCells (flatten (answer .centroids)) ∙ f .cells .1 .0))
+      go (suc number) e t p q = let z : _≡_ {A = ℕ} 0 1 = cc in absurd (omega arith)
+
+  -- ---- which number refuses the call, and exactly when
+
+  -- every number is in range
+  abbrev pub ranges : Bool
+  ranges = rangesFit rows dim k config
+
+  -- every lent slice is as long as the numbers say
+  abbrev pub slices : Bool
+  slices = lengthsFit rows dim k (length values) lent
+
+  -- there are rows enough for the clusters
+  abbrev pub enough : Bool
+  enough = leb k rows
+
+  -- there are from 1 to 4,096 draws
+  abbrev pub drawable : Bool
+  drawable = within 1 4096 (length draws)
+
+  abbrev tests : List Bool
+  tests = ranges ∷ slices ∷ enough ∷ drawable ∷ []
+
+  -- Refused by 1 exactly when a number is out of range.
+  pub refused-one : (call ≡ refused 1) ↔ (ranges ≡ false)
+  unfolding kmeansCall kmeansRefusal
+  refused-one = fails-exactly tests (accepted answer) 0 (λ _. not-both answer 1)
+
+  -- Refused by 2 exactly when the numbers are in range and a slice is of another length.
+  pub refused-two : (call ≡ refused 2) ↔ ((ranges ≡ true) × (slices ≡ false))
+  unfolding kmeansCall kmeansRefusal
+  refused-two = fails-exactly tests (accepted answer) 1 (λ _. not-both answer 2)
+
+  -- Refused by 3 exactly when numbers and slices fit, and k is above rows.
+  pub refused-three : (call ≡ refused 3) ↔ ((ranges ≡ true) × ((slices ≡ true) × (enough ≡ false)))
+  unfolding kmeansCall kmeansRefusal
+  refused-three = fails-exactly tests (accepted answer) 2 (λ _. not-both answer 3)
+
+  -- Refused by 4 exactly when all else fits, and there are no draws or more than 4,096.
+  pub refused-four : (call ≡ refused 4) ↔ ((ranges ≡ true) × ((slices ≡ true) × ((enough ≡ true) × (drawable ≡ false))))
+  unfolding kmeansCall kmeansRefusal
+  refused-four = fails-exactly tests (accepted answer) 3 (λ _. not-both answer 4)
+
+  -- Accepted, with the run's result, exactly when all four tests pass.
+  pub accepted-exactly : (call ≡ accepted answer) ↔ ((ranges ≡ true) × ((slices ≡ true) × ((enough ≡ true) × (drawable ≡ true))))
+  unfolding kmeansCall kmeansRefusal
+  accepted-exactly =
+      let w = Whens·accepted-exactly tests (accepted answer) answer in
+      ((λ c. let t = w .0 c .0 in (t .0, (t .1 .0, (t .1 .1 .0, t .1 .1 .1 .0)))), (λ t. w .1 ((t .0, (t .1 .0, (t .1 .1 .0, (t .1 .1 .1, tt)))), refl)))
+
+  -- No other number refuses a call.
+  pub refused-otherwise : (number : ℕ) → call ≡ refused number → (0 < number) × (number ≤ 4)
+  unfolding kmeansCall kmeansRefusal
+  refused-otherwise number c = ⊎-elim (λ h. h) (λ e. absurd (not-both answer number e)) (refused-by tests (accepted answer) number c)

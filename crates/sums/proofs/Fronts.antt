@@ -25,6 +25,11 @@ module _ {A : Type 0} where
   take-few (suc n) [] = zero-le
   take-few (suc n) (x ∷ l) = suc-le-suc (take-few n l)
 
+  pub take-within : (n : ℕ) (l : List A) → length (take n l) ≤ length l
+  take-within zero l = zero-le
+  take-within (suc n) [] = zero-le
+  take-within (suc n) (x ∷ l) = suc-le-suc (take-within n l)
+
   -- the lesser of a and the length
   pub take-least : (a : ℕ) (l : List A) → take (min a (length l)) l ≡ take a l
   take-least a l = go (leb a (length l)) refl

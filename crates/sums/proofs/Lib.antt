@@ -14,4 +14,5 @@ pub mod Counts
 pub mod Picks
 pub mod NanBits
 pub mod Refusing
+pub mod Whens
 pub mod Sames

@@ -8,7 +8,7 @@ use native.Mathlib.Omega.{arith}
 use borrow.Author.Tests.{leb-true, eqb-true}
 use lib.Dec.{leb}
 use lib.ListN.{length, getD, set, replicate, getD-replicate}
-use Rattle.sums.specs.Refusals.{within, sameAll, lowestFrom, padded}
+use Rattle.sums.specs.Refusals.{within, sameAll, lowestFrom, padded, Cleared}
 
 pub both : (a b : Bool) → (a && b) ≡ true → (a ≡ true) × (b ≡ true)
 both true b e = (refl, e)
@@ -102,6 +102,13 @@ module _ {A : Type 0} where
   padded-none blank zero = refl
   padded-none blank (suc n) = ap (λ (l : List A). blank ∷ l) (padded-none blank n)
 
+  -- there are as many cells as were lent
+  pub padded-length : (blank : A) (n : ℕ) (xs : List A) → length (padded blank n xs) ≡ n
+  unfolding padded
+  padded-length blank zero xs = refl
+  padded-length blank (suc n) [] = ap suc (padded-length blank n [])
+  padded-length blank (suc n) (x ∷ xs) = ap suc (padded-length blank n xs)
+
   -- one value more
   pub padded-more : (blank : A) (n : ℕ) (xs : List A) (v : A) → length xs < n → set (padded blank n xs) (length xs) v ≡ padded blank n (xs ++ (v ∷ []))
   unfolding padded
@@ -123,3 +130,7 @@ module _ {A : Type 0} where
   padded-past blank zero (x ∷ xs) i d h k = absurd (not-suc-le-zero k)
   padded-past blank (suc n) (x ∷ xs) zero d h k = absurd (not-suc-le-zero h)
   padded-past blank (suc n) (x ∷ xs) (suc i) d h k = padded-past blank n xs i d (le-of-suc-le-suc h) (le-of-suc-le-suc k)
+
+-- two work slices of one length that both end cleared hold the same
+pub cleared-same : {A : Type 0} (blank : A) (cells cells′ : List A) → Cleared blank cells → Cleared blank cells′ → length cells ≡ length cells′ → cells ≡ cells′
+cleared-same {A} blank cells cells′ c c′ e = c ∙ (ap (λ (n : ℕ). replicate n blank) e ∙ sym c′)

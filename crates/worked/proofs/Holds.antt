@@ -1,14 +1,21 @@
 -- Every line of the table holds, by computing.
 use mathlib.Core.Path.{refl}
+use lib.Ieee.{ofBits}
+use Rattle.words.specs.Bytes.{numberOf}
 use Rattle.grouping.specs.Groups.{splitFrom}
+use Rattle.batch.specs.Shape.{trailerAt, fitsFile, shapeOf}
+use Rattle.batch.specs.Listing.{placesFrom, decimal, rowNumbers, groupLine, listing}
+use Rattle.batch.specs.Batch.{answerBy}
 use Rattle.worked.specs.Table.{Table}
 use Rattle.worked.proofs.Opened.{opened}
 use Rattle.worked.proofs.Settled.{P1-parts, P2-parts, P2-refused, P10-settles}
 
 pub table-holds : Table
-unfolding opened splitFrom
+unfolding opened splitFrom ofBits numberOf trailerAt fitsFile shapeOf placesFrom decimal rowNumbers groupLine listing answerBy
 table-holds = record {
   P1 = rw P1-parts;
+  P1-listing = rw P1-parts;
+  no-bytes = refl;
   P2 = rw (P2-refused 3 0);
   P2-balanced = rw P2-parts;
   P3-share = refl;

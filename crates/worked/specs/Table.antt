@@ -7,7 +7,6 @@ use Prim.Native.Nat.{ℕ}
 use lib.IntN.{pos, negsuc}
 use lib.ListN.{length, replicate}
 use lib.Ieee.{Float, fin, nan}
-use Rattle.sums.specs.Rows.{rowsFrom}
 use Rattle.sums.specs.Sums.{zero32, one32, two32, count32}
 use Rattle.sums.specs.Refusals.{Answer, accepted, refused}
 use Rattle.labels.specs.Call.{labelCall}
@@ -18,6 +17,7 @@ use Rattle.grouping.specs.Parts.{sizesOf}
 use Rattle.grouping.specs.Balance.{share, allowed, balance, moves, toward}
 use Rattle.grouping.specs.Groups.{Groups}
 use Rattle.grouping.specs.Call.{lengthsOf, groupingCall}
+use Rattle.batch.specs.Batch.{listingOf}
 
 -- `fin false m e` is m·2^e, and `fin true m e` its opposite; `negsuc n` is the exponent -(n + 1)
 abbrev pub half : Float
@@ -26,10 +26,6 @@ half = fin false 1 (negsuc 0)
 -- rows of one reading, all alike, and as many centroids
 abbrev pub alike : ℕ → List (List Float)
 alike n = replicate n (one32 ∷ [])
-
--- all rows in the first part, and `others` empty ones
-abbrev parts : ℕ → ℕ → List (List ℕ)
-parts n others = replicate n 0 ∷ replicate others []
 
 -- a grouping of rows of one reading: draws [0], and all slices as long as they are to be
 abbrev batch : List Float → ℕ → ℕ → Float → ℕ → Answer Groups
@@ -42,15 +38,21 @@ grouped groups splits = accepted (record { groups = groups; splits = splits })
 
 pub record Table : Type 0 where
   pub P1 : batch (zero32 ∷ one32 ∷ count32 10 ∷ count32 11 ∷ []) 2 2 zero32 4 ≡ grouped ((2 ∷ 3 ∷ []) ∷ (0 ∷ 1 ∷ []) ∷ []) 1
+  -- the same as a file, readings, draw and trailer; and its listing, `accepted groups 2 splits 1`, `2: 2 3`, `2: 0 1`, each line with its end
+  pub P1-listing : listingOf (0 ∷ 0 ∷ 0 ∷ 0 ∷ 0 ∷ 0 ∷ 128 ∷ 63 ∷ 0 ∷ 0 ∷ 32 ∷ 65 ∷ 0 ∷ 0 ∷ 48 ∷ 65 ∷ 0 ∷ 0 ∷ 0 ∷ 0
+      ∷ 0 ∷ 0 ∷ 0 ∷ 0 ∷ 16 ∷ 0 ∷ 0 ∷ 0 ∷ 4 ∷ 0 ∷ 0 ∷ 0 ∷ 1 ∷ 0 ∷ 0 ∷ 0 ∷ 1 ∷ 0 ∷ 0 ∷ 0 ∷ 2 ∷ 0 ∷ 0 ∷ 0 ∷ 2 ∷ 0 ∷ 0 ∷ 0 ∷ 0 ∷ 0 ∷ 0 ∷ 0 ∷ 4 ∷ 0 ∷ 0 ∷ 0 ∷ [])
+      ≡ 97 ∷ 99 ∷ 99 ∷ 101 ∷ 112 ∷ 116 ∷ 101 ∷ 100 ∷ 32 ∷ 103 ∷ 114 ∷ 111 ∷ 117 ∷ 112 ∷ 115 ∷ 32 ∷ 50 ∷ 32 ∷ 115 ∷ 112 ∷ 108 ∷ 105 ∷ 116 ∷ 115 ∷ 32 ∷ 49 ∷ 10 ∷ 50 ∷ 58 ∷ 32 ∷ 50 ∷ 32 ∷ 51 ∷ 10 ∷ 50 ∷ 58 ∷ 32 ∷ 48 ∷ 32 ∷ 49 ∷ 10 ∷ []
+  -- a file of no bytes: `refused 8`
+  pub no-bytes : listingOf [] ≡ 114 ∷ 101 ∷ 102 ∷ 117 ∷ 115 ∷ 101 ∷ 100 ∷ 32 ∷ 56 ∷ 10 ∷ []
   -- five readings of 3
   pub P2 : batch (replicate 5 (fin false 3 (pos 0))) 4 2 zero32 3 ≡ refused 7
   pub P2-balanced : batch (replicate 5 (fin false 3 (pos 0))) 4 2 half 3 ≡ grouped ((0 ∷ 1 ∷ []) ∷ (2 ∷ 3 ∷ 4 ∷ []) ∷ []) 1
   pub P3-share : share 40 2 ≡ 20
   -- the weight is 0.25
   pub P3-allowance : allowed 20 (fin false 1 (negsuc 1)) ≡ 25
-  pub P3-sizes : sizesOf (balance (alike 1) (alike 2) 20 (fin false 1 (negsuc 1)) (parts 40 1)) ≡ 30 ∷ 10 ∷ []
-  pub P3-moves : moves (toward (alike 1) (alike 2)) 20 25 10 (parts 40 1) ≡ 10
-  pub P4 : sizesOf (balance (alike 1) (alike 3) (share 30 3) one32 (parts 30 2)) ≡ 20 ∷ 10 ∷ 0 ∷ []
+  pub P3-sizes : sizesOf (balance (alike 1) (alike 2) 20 (fin false 1 (negsuc 1)) (replicate 40 0 ∷ [] ∷ [])) ≡ 30 ∷ 10 ∷ []
+  pub P3-moves : moves (toward (alike 1) (alike 2)) 20 25 10 (replicate 40 0 ∷ [] ∷ []) ≡ 10
+  pub P4 : sizesOf (balance (alike 1) (alike 3) (share 30 3) one32 (replicate 30 0 ∷ [] ∷ [] ∷ [])) ≡ 20 ∷ 10 ∷ 0 ∷ []
   pub P5 : labelCall 1 1 2 (one32 ∷ []) (one32 ∷ one32 ∷ []) 1 ≡ accepted (0 ∷ [])
   pub P6 : labelCall 1 1 2 (two32 ∷ []) (nan ∷ two32 ∷ []) 1 ≡ accepted (1 ∷ [])
   pub P7 : labelCall 1 1 2 (nan ∷ []) (one32 ∷ two32 ∷ []) 1 ≡ accepted (0 ∷ [])
