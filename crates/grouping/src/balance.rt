@@ -9,6 +9,8 @@ ghost use Rattle.sums.specs.Sums.{zero32};
 ghost use Rattle.sums.specs.Cells.{Below};
 ghost use Rattle.grouping.specs.Balance.{share as Balance·share, allowed, closestOf, moved, balance, moves, toward};
 ghost use Rattle.grouping.specs.PartsInside.{tableOf, Laid, Parted, total, turned, carried};
+use labels::positions;
+use labels::positions::RowNumber;
 use sums::cells;
 use sums::math;
 
@@ -92,13 +94,15 @@ fn find_closest_vector_to_centroid(
     ensures { λ r. ⌜ (r ≡ closestOf (tableOf dim (now (values .entry))) (now (centroid .entry)) (now (part .entry)))
         × (r < length (now (part .entry))) ⌝ }
 {
-    let first = cells::wide(part[0]) * dim;
+    let number = part[0];
+    let first = positions::row_place(RowNumber(number)) * dim;
     let first_end = first + dim;
     let mut best = math::l2_distance_sqr(&values[first..first_end], centroid);
     let mut place = 0usize;
     let mut i = 1usize;
     while i < part.len() {
-        let at = cells::wide(part[i]) * dim;
+        let next = part[i];
+        let at = positions::row_place(RowNumber(next)) * dim;
         let end = at + dim;
         let apart = math::l2_distance_sqr(&values[at..end], centroid);
         if apart < best {

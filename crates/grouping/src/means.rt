@@ -10,6 +10,8 @@ ghost use Rattle.sums.specs.Sums.{zero32, count32};
 ghost use Rattle.sums.specs.Refusals.{padded};
 ghost use Rattle.grouping.specs.Groups.{meanOf, endsFrom};
 ghost use Rattle.grouping.specs.PartsInside.{tableOf};
+use labels::positions;
+use labels::positions::RowNumber;
 use sums::cells;
 use sums::math;
 
@@ -33,7 +35,8 @@ fn compute_centroid(values: &[f32], dim: usize, group: &[u16], mean: &mut [f32])
     cells::clear(mean);
     let mut i = 0usize;
     while i < group.len() {
-        let at = cells::wide(group[i]) * dim;
+        let number = group[i];
+        let at = positions::row_place(RowNumber(number)) * dim;
         let end = at + dim;
         math::add_row(mean, &values[at..end]);
         i += 1;

@@ -61,8 +61,8 @@ fn update_cluster(
     }
     let used = state.used;
     if used < pool.len() {
-        let row = positions::row_in_training(TrainingPosition(pool[used]));
-        training::copy_row(dst, training, dim, row);
+        let place = positions::training_place(TrainingPosition(pool[used]));
+        training::copy_row(dst, training, dim, place);
         let cursor = state.cursor;
         return Refill {
             used: used + 1,
@@ -71,8 +71,8 @@ fn update_cluster(
     }
     let drawn = state.cursor.draw(draws);
     let position = numbers::index(drawn.number) % rows;
-    let row = positions::row_in_training(TrainingPosition(position as u16));
-    training::copy_row(dst, training, dim, row);
+    let place = positions::training_place(TrainingPosition(position as u16));
+    training::copy_row(dst, training, dim, place);
     let cursor = drawn.next;
     Refill { used, cursor }
 }

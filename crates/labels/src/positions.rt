@@ -1,7 +1,6 @@
-// Three ways to count rows. Each is a type of its own, and only the functions here turn one into another.
+// Three ways to count rows. Each is a type of its own, and only the functions here turn one into another, or into a place in a slice.
 ghost use mathlib.Core.Path.{_≡_};
 ghost use Prim.Native.Nat.{_+_, _<_};
-ghost use lib.ListN.{length, getD};
 
 // A row's place inside its block.
 pub struct BlockPosition(pub u16);
@@ -9,7 +8,7 @@ pub struct BlockPosition(pub u16);
 // A row's place among the training rows.
 pub struct TrainingPosition(pub u16);
 
-// A row's number in the readings that are lent.
+// A row's number in its batch.
 pub struct RowNumber(pub u16);
 
 // The block's first row stands at `start`.
@@ -20,18 +19,16 @@ pub fn in_training(start: usize, p: BlockPosition) -> TrainingPosition
     TrainingPosition((start + p.0 as usize) as u16)
 }
 
-// The training rows are given by their row numbers, one a training position.
-pub fn row_of(rows: &[u16], p: TrainingPosition) -> RowNumber
-    requires { ⌜ p .0 < length (now rows) ⌝ }
-    ensures { λ r. ⌜ r .0 ≡ getD (now (rows .entry)) (p .0) 0 ⌝ }
+// Where a training row stands among the training rows, which are a slice of their own.
+pub fn training_place(p: TrainingPosition) -> usize
+    ensures { λ r. ⌜ (r ≡ p .0) × (r < 65536) ⌝ }
 {
-    let at = p.0 as usize;
-    RowNumber(rows[at])
+    p.0 as usize
 }
 
-// The training rows stand one after the other in a slice of their own: there a position is the row's number.
-pub fn row_in_training(p: TrainingPosition) -> RowNumber
-    ensures { λ r. ⌜ r .0 ≡ p .0 ⌝ }
+// Where a row stands in its batch.
+pub fn row_place(number: RowNumber) -> usize
+    ensures { λ r. ⌜ (r ≡ number .0) × (r < 65536) ⌝ }
 {
-    RowNumber(p.0)
+    number.0 as usize
 }

@@ -31,34 +31,34 @@ loop-holds c =
       (ap length e ∙ length-replicate (s .args .dim) zero32, ap (λ (m : Row). addRows m (rowsAt (tableOf (s .args .dim) (s .args .values .now)) (s .args .group .now))) e),
     )
 
-mul-wide : tie.Need-mul-wide Inv-loop μ-loop
-mul-wide c = search needs
+mul-number : tie.Need-mul-number Inv-loop μ-loop
+mul-number c = search needs
 
-shared-slice-read-wide : tie.Need-shared-slice-read-wide Inv-loop μ-loop
-shared-slice-read-wide c = search needs
+shared-slice-read-number : tie.Need-shared-slice-read-number Inv-loop μ-loop
+shared-slice-read-number c = search needs
 
-wide-requires : tie.Need-wide-requires Inv-loop μ-loop
-wide-requires c κs = search needs
+row-place-requires : tie.Need-row-place-requires Inv-loop μ-loop
+row-place-requires c κs = search needs
 
 mul-at : tie.Need-mul-at Inv-loop μ-loop
 mul-at c =
     let s = c .before .before .before .before .before .before .before .before .before .before .before in
     let k = c .before .before .before in
-    let r = row-room (s .args .values .now) (s .args .dim) (s .args .group .now) (s .pre .1 .0) (k .loop .i) (c .wide .result) (omega arith) (c .wide .ensures .0) in
+    let r = row-room (s .args .values .now) (s .args .dim) (s .args .group .now) (s .pre .1 .0) (k .loop .i) (c .row-place .result) (omega arith) (c .row-place .ensures .0) in
     omega arith
 
 add-end : tie.Need-add-end Inv-loop μ-loop
 add-end c =
     let s = c .before .before .before .before .before .before .before .before .before .before .before in
     let k = c .before .before .before in
-    let r = row-room (s .args .values .now) (s .args .dim) (s .args .group .now) (s .pre .1 .0) (k .loop .i) (c .wide .result) (omega arith) (c .wide .ensures .0) in
+    let r = row-room (s .args .values .now) (s .args .dim) (s .args .group .now) (s .pre .1 .0) (k .loop .i) (c .row-place .result) (omega arith) (c .row-place .ensures .0) in
     omega arith
 
 mul-add-row : tie.Need-mul-add-row Inv-loop μ-loop
 mul-add-row c =
     let s = c .before .before .before .before .before .before .before .before .before .before .before .before in
     let k = c .before .before .before .before in
-    let r = row-room (s .args .values .now) (s .args .dim) (s .args .group .now) (s .pre .1 .0) (k .loop .i) (c .before .wide .result) (omega arith) (c .before .wide .ensures .0) in
+    let r = row-room (s .args .values .now) (s .args .dim) (s .args .group .now) (s .pre .1 .0) (k .loop .i) (c .before .row-place .result) (omega arith) (c .before .row-place .ensures .0) in
     omega arith
 
 sub-add-row : tie.Need-sub-add-row Inv-loop μ-loop
@@ -71,15 +71,15 @@ part-add-row-end : tie.Need-part-add-row-end Inv-loop μ-loop
 part-add-row-end c =
     let s = c .before .before .before .before .before .before .before .before .before .before .before .before in
     let k = c .before .before .before .before in
-    let r = row-room (s .args .values .now) (s .args .dim) (s .args .group .now) (s .pre .1 .0) (k .loop .i) (c .before .wide .result) (omega arith) (c .before .wide .ensures .0) in
+    let r = row-room (s .args .values .now) (s .args .dim) (s .args .group .now) (s .pre .1 .0) (k .loop .i) (c .before .row-place .result) (omega arith) (c .before .row-place .ensures .0) in
     omega arith
 
 add-row-requires : tie.Need-add-row-requires Inv-loop μ-loop
 add-row-requires c κs =
     let s = c .before .before .before .before .before .before .before .before .before .before .before .before .before in
     let k = c .before .before .before .before .before in
-    let r = row-room (s .args .values .now) (s .args .dim) (s .args .group .now) (s .pre .1 .0) (k .loop .i) (c .before .before .wide .result) (omega arith) (c .before .before .wide .ensures .0) in
-    k .loop .inv .1 .0 ∙ sym (part-length (c .before .before .wide .result * s .args .dim) (s .args .dim) (s .args .values .now) r)
+    let r = row-room (s .args .values .now) (s .args .dim) (s .args .group .now) (s .pre .1 .0) (k .loop .i) (c .before .before .row-place .result) (omega arith) (c .before .before .row-place .ensures .0) in
+    k .loop .inv .1 .0 ∙ sym (part-length (c .before .before .row-place .result * s .args .dim) (s .args .dim) (s .args .values .now) r)
 
 add-i : tie.Need-add-i Inv-loop μ-loop
 add-i c = search needs
@@ -91,7 +91,7 @@ loop-again : tie.Need-loop-again Inv-loop μ-loop
 loop-again c =
     let s = c .before .before .before .before .before .before .before .before .before .before .before .before .before .before .before .before in
     let k = c .before .before .before .before .before .before .before .before in
-    let w = c .before .before .before .before .before .wide in
+    let w = c .before .before .before .before .before .row-place in
     let R = tableOf (s .args .dim) (s .args .values .now) in
     let e : c .before .before .add-row .last .0 ≡ addRow (k .loop .mean) (getD R (getD (s .args .group .now) (k .loop .i) 0) [])
     = c .before .before .add-row .ensures ∙ ap (addRow (k .loop .mean)) (row-is (s .args .values .now) (s .args .dim) (s .args .group .now) (s .pre .1 .0) (k .loop .i) (w .result) (omega arith) (w .ensures .0)) in (
@@ -127,9 +127,9 @@ compute-centroid-spec =
     μ-loop
     clear-requires
     loop-holds
-    mul-wide
-    shared-slice-read-wide
-    wide-requires
+    mul-number
+    shared-slice-read-number
+    row-place-requires
     mul-at
     add-end
     mul-add-row
