@@ -6,9 +6,10 @@
 use crate::closure::ClosureAssigner;
 use crate::clustering::{Grouping, HierarchicalClustering, Member};
 use crate::draws::Draws;
-use crate::kmeans::{label_rows, run_kmeans_flat, KMeansConfig};
+use crate::kmeans::{
+    assign_full_dataset, compute_norms, rebuild_centroid_views, run_kmeans_flat, KMeansConfig,
+};
 use crate::refusal::Refusal;
-use crate::slips::Slip;
 
 pub const BLANK_CELL: u16 = 65_535;
 pub const BLANK_FLOAT: f32 = 0.0;
@@ -80,7 +81,6 @@ pub fn labelling(
     values: &[f32],
     centroids: &[f32],
     labels: &mut [u16],
-    slip: Slip,
 ) -> Result<(), Refusal> {
     labels.fill(BLANK_CELL);
     check_ranges(&[(rows, ROWS), (dim, DIM), (k, K)])?;
@@ -90,13 +90,19 @@ pub fn labelling(
         (labels.len(), rows),
     ])?;
 
-    let config = KMeansConfig {
-        slip,
-        ..KMeansConfig::default()
-    };
     let (rows, dim, k) = (rows as usize, dim as usize, k as usize);
-    write_cells(labels, label_rows(values, rows, dim, centroids, k, &config));
+    write_cells(labels, label_rows(values, rows, dim, centroids, k));
     Ok(())
+}
+
+/// The steps by which a restart of `run_kmeans_flat` labels all rows, as a call.
+fn label_rows(values: &[f32], rows: usize, dim: usize, centroids: &[f32], k: usize) -> Vec<usize> {
+    let norms = compute_norms(values, rows, dim);
+    let mut columns = Vec::with_capacity(dim * k);
+    let mut column_norms = Vec::with_capacity(k);
+    rebuild_centroid_views(centroids, k, dim, &mut columns, &mut column_norms);
+    let block = KMeansConfig::default().decode_block_size;
+    assign_full_dataset(values, &norms, k, dim, &columns, &column_norms, block)
 }
 
 // ---- k-means
@@ -125,13 +131,12 @@ impl KMeansNumbers {
         ])
     }
 
-    fn config(&self, slip: Slip) -> KMeansConfig {
+    fn config(&self) -> KMeansConfig {
         KMeansConfig {
             niter: self.iterations as usize,
             nredo: self.restarts as usize,
             max_points_per_centroid: self.points_per_centroid as usize,
             decode_block_size: self.block as usize,
-            slip,
         }
     }
 }
@@ -155,7 +160,6 @@ pub fn kmeans(
     draws: &[u32],
     work_fits: bool,
     lent: KMeansLent,
-    slip: Slip,
 ) -> Result<KMeansAccepted, Refusal> {
     lent.labels.fill(BLANK_CELL);
     lent.centroids.fill(BLANK_FLOAT);
@@ -176,7 +180,7 @@ pub fn kmeans(
         numbers.rows as usize,
         numbers.dim as usize,
         numbers.k as usize,
-        &numbers.config(slip),
+        numbers.config(),
         &mut Draws::new(draws),
     );
     write_cells(lent.labels, result.assignments);
@@ -253,7 +257,6 @@ pub fn grouping(
     draws: &[u32],
     work_fits: bool,
     mut lent: GroupingLent,
-    slip: Slip,
 ) -> Result<GroupingAccepted, Refusal> {
     lent.blank();
     numbers.check_ranges()?;
@@ -267,14 +270,13 @@ pub fn grouping(
     check_draws(draws)?;
 
     let dim = numbers.dim as usize;
-    let mut clustering = HierarchicalClustering::new(
+    let clustering = HierarchicalClustering::new(
         numbers.size_limit as usize,
         numbers.branching as usize,
         numbers.weight,
         numbers.budget as usize,
     );
-    clustering.slip = slip;
-    let found = clustering.cluster(members(values, dim), &mut Draws::new(draws))?;
+    let found = clustering.cluster(&members(values, dim), &mut Draws::new(draws))?;
     lent.write(dim, &found);
     Ok(GroupingAccepted {
         groups: found.clusters.len() as u32,
@@ -343,7 +345,7 @@ fn try_label_bytes(
     ])?;
     let mut label = [BLANK_CELL];
     let (row, centroids) = (floats_of(row), floats_of(centroids));
-    labelling(1, dim, k, &row, &centroids, &mut label, Slip::None)?;
+    labelling(1, dim, k, &row, &centroids, &mut label)?;
     write_bytes(result, &label);
     Ok(())
 }

@@ -7,7 +7,6 @@ use std::fmt::Debug;
 
 use crate::calls::Range;
 use crate::random::Random;
-use crate::slips::Slip;
 
 mod batch;
 mod bytes;
@@ -36,7 +35,7 @@ pub trait Case: Debug + Sized {
     fn built() -> Vec<Self>;
 
     /// The oracle's outcome.
-    fn run(&self, slip: Slip) -> Self::Outcome;
+    fn run(&self) -> Self::Outcome;
 
     /// The refusal's number, 0 for an acceptance.
     fn number(outcome: &Self::Outcome) -> u32;

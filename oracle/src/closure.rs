@@ -1,4 +1,5 @@
-//! `src/mstg/closure.rs` of the source, without the unused neighbour rule.
+//! `src/mstg/closure.rs` of the source, without the unused `apply_rng_rule`; where the source
+//! would panic the call is refused.
 
 use crate::math::l2_distance_sqr;
 use crate::refusal::Refusal;
@@ -16,37 +17,33 @@ impl ClosureAssigner {
         }
     }
 
-    pub fn assign<V: AsRef<[f32]>>(
-        &self,
-        vector: &[f32],
-        centroids: &[V],
-    ) -> Result<Vec<usize>, Refusal> {
+    pub fn assign(&self, vector: &[f32], centroids: &[&[f32]]) -> Result<Vec<usize>, Refusal> {
         if centroids.is_empty() {
-            return Ok(Vec::new());
+            return Ok(vec![]);
         }
 
-        let mut distances: Vec<(usize, f32)> = centroids
+        let mut by_distance: Vec<(usize, f32)> = centroids
             .iter()
             .enumerate()
-            .map(|(i, c)| (i, l2_distance_sqr(vector, c.as_ref())))
+            .map(|(index, centroid)| (index, l2_distance_sqr(vector, centroid)))
             .collect();
 
-        // The source's comparison panics here; a single distance is never compared.
-        if distances.len() > 1 && distances.iter().any(|(_, dist)| dist.is_nan()) {
+        // The source's comparison panics on these; a single distance is never compared.
+        if by_distance.len() > 1 && by_distance.iter().any(|entry| entry.1.is_nan()) {
             return Err(Refusal::NanDistance);
         }
         // The sort is stable, so equal distances stay in the order of their indices.
-        distances.sort_by(|a, b| a.1.partial_cmp(&b.1).unwrap());
+        by_distance.sort_by(|near, far| near.1.partial_cmp(&far.1).unwrap());
 
-        let closest_dist = distances[0].1;
+        let closest = by_distance[0].1;
         let factor = 1.0 + self.epsilon;
-        let threshold = closest_dist * factor * factor;
+        let threshold = closest * factor * factor;
 
-        Ok(distances
+        Ok(by_distance
             .iter()
             .take(self.max_replicas)
-            .filter(|(_, dist)| *dist <= threshold)
-            .map(|(idx, _)| *idx)
+            .filter(|entry| entry.1 <= threshold)
+            .map(|entry| entry.0)
             .collect())
     }
 }

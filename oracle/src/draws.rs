@@ -23,14 +23,12 @@ impl<'a> Draws<'a> {
         draw
     }
 
-    /// Picks `count` of `0..of` by exchanges; the last one uses a draw even where it has no choice.
-    pub fn pick(&mut self, count: usize, of: usize) -> Vec<usize> {
-        let mut indices: Vec<usize> = (0..of).collect();
+    /// Brings the picked to the first `count` places; the last exchange uses a draw even where it
+    /// has no choice.
+    pub fn pick(&mut self, places: &mut [usize], count: usize) {
         for i in 0..count {
-            let j = i + self.drawn() as usize % (of - i);
-            indices.swap(i, j);
+            let j = i + self.drawn() as usize % (places.len() - i);
+            places.swap(i, j);
         }
-        indices.truncate(count);
-        indices
     }
 }

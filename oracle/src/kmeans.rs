@@ -1,15 +1,15 @@
-//! `src/kmeans.rs` of the source: sums in stated order for `sgemm`, one fold in block order for
-//! the parallel ones, draws for the generator; without `spherical`, the seed and progress lines.
+//! `src/kmeans.rs` of the source, its functions in its order: sums in stated order for `sgemm`, one
+//! fold in block order for the parallel ones, draws for the generator, document 01's order where a
+//! sort meets ties; without `spherical`, the seed and progress lines.
 
 use std::cmp::Ordering;
 
 use crate::draws::Draws;
-use crate::math::{column_distance_sqr, norm, sgemm};
-use crate::slips::Slip;
+use crate::math::sgemm;
 
 const RESEED_CANDIDATES: usize = 8;
 const DEFAULT_MAX_POINTS_PER_CENTROID: usize = 256;
-const DEFAULT_DECODE_BLOCK_SIZE: usize = 32768;
+const DEFAULT_DECODE_BLOCK_SIZE: usize = 32_768;
 
 #[derive(Debug, Clone)]
 pub struct KMeansConfig {
@@ -17,7 +17,6 @@ pub struct KMeansConfig {
     pub nredo: usize,
     pub max_points_per_centroid: usize,
     pub decode_block_size: usize,
-    pub slip: Slip,
 }
 
 impl Default for KMeansConfig {
@@ -27,7 +26,6 @@ impl Default for KMeansConfig {
             nredo: 1,
             max_points_per_centroid: DEFAULT_MAX_POINTS_PER_CENTROID,
             decode_block_size: DEFAULT_DECODE_BLOCK_SIZE,
-            slip: Slip::None,
         }
     }
 }
@@ -46,28 +44,28 @@ pub fn run_kmeans<V: AsRef<[f32]>>(
     data: &[V],
     k: usize,
     max_iter: usize,
-    slip: Slip,
     draws: &mut Draws,
 ) -> KMeansResult {
     let config = KMeansConfig {
         niter: max_iter,
-        slip,
-        ..KMeansConfig::default()
+        nredo: 1,
+        max_points_per_centroid: DEFAULT_MAX_POINTS_PER_CENTROID,
+        decode_block_size: DEFAULT_DECODE_BLOCK_SIZE,
     };
-    run_kmeans_with_config(data, k, &config, draws)
+    run_kmeans_with_config(data, k, config, draws)
 }
 
 pub fn run_kmeans_with_config<V: AsRef<[f32]>>(
     data: &[V],
     k: usize,
-    config: &KMeansConfig,
+    config: KMeansConfig,
     draws: &mut Draws,
 ) -> KMeansResult {
     let dim = validate_inputs(data, k, config.niter);
-    let total_points = data.len();
+    let rows = data.len();
 
-    let flattened = flatten_dataset(data, total_points * dim);
-    run_kmeans_flat(&flattened, total_points, dim, k, config, draws)
+    let flat = flatten_dataset(data, rows * dim);
+    run_kmeans_flat(&flat, rows, dim, k, config, draws)
 }
 
 pub fn run_kmeans_flat(
@@ -75,101 +73,76 @@ pub fn run_kmeans_flat(
     total_points: usize,
     dim: usize,
     k: usize,
-    config: &KMeansConfig,
+    config: KMeansConfig,
     draws: &mut Draws,
 ) -> KMeansResult {
-    let training_indices =
-        select_training_indices(total_points, k, config.max_points_per_centroid, draws);
+    let picked = select_training_indices(total_points, k, config.max_points_per_centroid, draws);
 
-    let training_rows = training_indices.len();
-    let training_data_owned;
-    let training_data: &[f32] = if training_rows == total_points {
+    let training_rows = picked.len();
+    let gathered;
+    let training: &[f32] = if training_rows == total_points {
         flattened
     } else {
-        training_data_owned = gather_rows(flattened, &training_indices, dim);
-        &training_data_owned
+        gathered = gather_rows(flattened, &picked, dim);
+        &gathered
     };
 
-    let mut best_result: Option<KMeansResult> = None;
+    let mut kept: Option<KMeansResult> = None;
 
-    for redo_idx in 0..config.nredo {
-        let centroids = train_centroids(training_data, training_rows, dim, k, config, draws);
-        let assignments = label_rows(flattened, total_points, dim, &centroids, k, config);
-        let objective = compute_objective(flattened, &centroids, &assignments, dim, config.slip);
+    for restart in 0..config.nredo {
+        let mut centroids = initialize_centroids_random(training, training_rows, dim, k, draws);
+
+        let mut training_labels = vec![0; training_rows];
+        let training_norms = compute_norms(training, training_rows, dim);
+
+        run_lloyd_iterations(
+            &mut centroids,
+            config.niter,
+            k,
+            dim,
+            training,
+            &training_norms,
+            &mut training_labels,
+            draws,
+            config.decode_block_size,
+        );
+
+        let norms = compute_norms(flattened, total_points, dim);
+        let mut columns = Vec::with_capacity(dim * k);
+        let mut column_norms = Vec::with_capacity(k);
+        rebuild_centroid_views(&centroids, k, dim, &mut columns, &mut column_norms);
+
+        let assignments = assign_full_dataset(
+            flattened,
+            &norms,
+            k,
+            dim,
+            &columns,
+            &column_norms,
+            config.decode_block_size,
+        );
+
+        let objective = compute_objective(flattened, &centroids, &assignments, total_points, dim);
 
         let result = KMeansResult {
-            centroids: centroids.chunks(dim).map(|c| c.to_vec()).collect(),
+            centroids: centroids.chunks(dim).map(<[f32]>::to_vec).collect(),
             assignments,
             objective,
-            restart: redo_idx,
+            restart,
         };
 
-        if redo_idx == 0 {
-            best_result = Some(result);
+        if restart == 0 {
+            kept = Some(result);
         } else {
             // A NaN is not below anything and nothing is below it, so a first NaN stays.
-            let is_better = objective < best_result.as_ref().unwrap().objective;
-            if is_better {
-                best_result = Some(result);
+            let smaller = objective < kept.as_ref().unwrap().objective;
+            if smaller {
+                kept = Some(result);
             }
         }
     }
 
-    best_result.unwrap()
-}
-
-/// The first half of a restart: picked centroids, and the iterations on the training rows.
-fn train_centroids(
-    training_data: &[f32],
-    training_rows: usize,
-    dim: usize,
-    k: usize,
-    config: &KMeansConfig,
-    draws: &mut Draws,
-) -> Vec<f32> {
-    let mut centroids = initialize_centroids_random(training_data, training_rows, dim, k, draws);
-    let mut training_assignments = vec![0usize; training_rows];
-    let norms = compute_norms(training_data, training_rows, dim);
-
-    run_lloyd_iterations(
-        &mut centroids,
-        config.niter,
-        k,
-        dim,
-        training_data,
-        &norms,
-        &mut training_assignments,
-        draws,
-        config.decode_block_size,
-        config.slip,
-    );
-    centroids
-}
-
-/// The second half of a restart, and all of labelling: every row against finished centroids.
-pub fn label_rows(
-    flattened: &[f32],
-    total_points: usize,
-    dim: usize,
-    centroids: &[f32],
-    k: usize,
-    config: &KMeansConfig,
-) -> Vec<usize> {
-    let full_norms = compute_norms(flattened, total_points, dim);
-    let mut centroid_col = Vec::with_capacity(dim * k);
-    let mut centroid_norms = Vec::with_capacity(k);
-    rebuild_centroid_views(centroids, k, dim, &mut centroid_col, &mut centroid_norms);
-
-    assign_full_dataset(
-        flattened,
-        &full_norms,
-        k,
-        dim,
-        &centroid_col,
-        &centroid_norms,
-        config.decode_block_size,
-        config.slip,
-    )
+    kept.unwrap()
 }
 
 /// Callers refuse by number before these can fail.
@@ -180,19 +153,17 @@ fn validate_inputs<V: AsRef<[f32]>>(data: &[V], k: usize, max_iter: usize) -> us
     assert!(k <= data.len(), "more centroids than samples");
 
     let dim = data[0].as_ref().len();
-    assert!(
-        data.iter().all(|v| v.as_ref().len() == dim),
-        "vectors of several lengths",
-    );
+    let alike = data.iter().all(|vector| vector.as_ref().len() == dim);
+    assert!(alike, "vectors of several lengths");
     dim
 }
 
 fn flatten_dataset<V: AsRef<[f32]>>(data: &[V], capacity: usize) -> Vec<f32> {
-    let mut flattened = Vec::with_capacity(capacity);
+    let mut flat = Vec::with_capacity(capacity);
     for vector in data {
-        flattened.extend_from_slice(vector.as_ref());
+        flat.extend_from_slice(vector.as_ref());
     }
-    flattened
+    flat
 }
 
 fn select_training_indices(
@@ -201,14 +172,16 @@ fn select_training_indices(
     max_points_per_centroid: usize,
     draws: &mut Draws,
 ) -> Vec<usize> {
-    let target = total_points.min(k * max_points_per_centroid).max(k);
+    let target = k.max(total_points.min(k * max_points_per_centroid));
     if target == total_points {
         return (0..total_points).collect();
     }
 
-    let mut indices = draws.pick(target, total_points);
-    indices.sort_unstable();
-    indices
+    let mut rows: Vec<usize> = (0..total_points).collect();
+    draws.pick(&mut rows, target);
+    rows.truncate(target);
+    rows.sort_unstable();
+    rows
 }
 
 fn initialize_centroids_random(
@@ -218,14 +191,24 @@ fn initialize_centroids_random(
     k: usize,
     draws: &mut Draws,
 ) -> Vec<f32> {
-    let indices = draws.pick(k, rows);
-    gather_rows(data, &indices, dim)
+    let mut positions: Vec<usize> = (0..rows).collect();
+    draws.pick(&mut positions, k);
+    positions.truncate(k);
+
+    let mut centroids = Vec::with_capacity(k * dim);
+    for &position in &positions {
+        centroids.extend_from_slice(&data[position * dim..][..dim]);
+    }
+    centroids
 }
 
-fn compute_norms(data: &[f32], rows: usize, dim: usize) -> Vec<f32> {
-    let mut norms = vec![0.0f32; rows];
-    for (slice, out) in data.chunks_exact(dim).zip(norms.iter_mut()) {
-        *out = norm(slice);
+pub(crate) fn compute_norms(data: &[f32], rows: usize, dim: usize) -> Vec<f32> {
+    let mut norms = vec![0.0; rows];
+    for (row, norm) in norms.iter_mut().enumerate() {
+        // A loop, since `Iterator::sum` of floats starts at -0.0.
+        for value in &data[row * dim..][..dim] {
+            *norm += value * value;
+        }
     }
     norms
 }
@@ -234,32 +217,29 @@ fn compute_objective(
     data: &[f32],
     centroids: &[f32],
     assignments: &[usize],
+    rows: usize,
     dim: usize,
-    slip: Slip,
 ) -> f64 {
-    let mut total = 0.0f64;
-    for (point, &cluster) in data.chunks_exact(dim).zip(assignments) {
-        let centroid = &centroids[cluster * dim..(cluster + 1) * dim];
-        let mut dist = 0.0f64;
+    let mut objective = 0.0;
+    for row in 0..rows {
+        let cluster = assignments[row];
+        let point = &data[row * dim..][..dim];
+        let centroid = &centroids[cluster * dim..][..dim];
+        let mut distance = 0.0;
         for d in 0..dim {
             // The subtraction is rounded to f32 and only then widened.
-            let delta = match slip {
-                Slip::WideningFirst => point[d] as f64 - centroid[d] as f64,
-                _ => (point[d] - centroid[d]) as f64,
-            };
-            dist += delta * delta;
+            let wide = f64::from(point[d] - centroid[d]);
+            distance += wide * wide;
         }
-        total += dist;
+        objective += distance;
     }
-    total
+    objective
 }
 
 fn gather_rows(data: &[f32], indices: &[usize], dim: usize) -> Vec<f32> {
     let mut gathered = Vec::with_capacity(indices.len() * dim);
-    for &idx in indices {
-        let start = idx * dim;
-        let end = start + dim;
-        gathered.extend_from_slice(&data[start..end]);
+    for &row in indices {
+        gathered.extend_from_slice(&data[row * dim..][..dim]);
     }
     gathered
 }
@@ -275,13 +255,12 @@ fn run_lloyd_iterations(
     assignments: &mut [usize],
     draws: &mut Draws,
     decode_block_size: usize,
-    slip: Slip,
 ) {
-    let mut centroid_col = Vec::with_capacity(dim * k);
-    let mut centroid_norms = Vec::with_capacity(k);
+    let mut columns = Vec::with_capacity(dim * k);
+    let mut column_norms = Vec::with_capacity(k);
 
-    for _iter in 0..iterations {
-        rebuild_centroid_views(centroids, k, dim, &mut centroid_col, &mut centroid_norms);
+    for _ in 0..iterations {
+        rebuild_centroid_views(centroids, k, dim, &mut columns, &mut column_norms);
 
         let summary = assign_points_for_update(
             data,
@@ -289,17 +268,16 @@ fn run_lloyd_iterations(
             assignments,
             k,
             dim,
-            &centroid_col,
-            &centroid_norms,
+            &columns,
+            &column_norms,
             decode_block_size,
-            slip,
         );
 
         update_centroids(centroids, k, dim, data, &summary, draws);
     }
 }
 
-fn rebuild_centroid_views(
+pub(crate) fn rebuild_centroid_views(
     centroids: &[f32],
     k: usize,
     dim: usize,
@@ -312,15 +290,16 @@ fn rebuild_centroid_views(
     centroid_norms.resize(k, 0.0);
 
     for cluster in 0..k {
-        let centroid = &centroids[cluster * dim..(cluster + 1) * dim];
-        for (d, &value) in centroid.iter().enumerate() {
-            centroid_col[d * k + cluster] = value;
+        let centroid = &centroids[cluster * dim..][..dim];
+        let mut sum = 0.0;
+        for (d, value) in centroid.iter().enumerate() {
+            centroid_col[d * k + cluster] = *value;
+            sum += value * value;
         }
-        centroid_norms[cluster] = norm(centroid);
+        centroid_norms[cluster] = sum;
     }
 }
 
-/// The state of the one fold: sums run on through all blocks, the pool alone knows them.
 #[derive(Debug)]
 struct AssignmentSummary {
     counts: Vec<usize>,
@@ -328,21 +307,53 @@ struct AssignmentSummary {
     candidates: Vec<(f32, usize)>,
 }
 
-impl AssignmentSummary {
-    fn new(k: usize, dim: usize) -> Self {
+/// The second field is resized and never read, in the source too.
+struct KMeansBuffer {
+    dot_products: Vec<f32>,
+    sums: Vec<f32>,
+}
+
+impl KMeansBuffer {
+    fn new() -> Self {
         Self {
-            counts: vec![0; k],
-            sums: vec![0.0; k * dim],
-            candidates: Vec::new(),
+            dot_products: vec![],
+            sums: vec![],
         }
     }
 
-    fn count_row(&mut self, cluster: usize, vector: &[f32]) {
-        self.counts[cluster] += 1;
-        let sum_offset = cluster * vector.len();
-        let sums = &mut self.sums[sum_offset..sum_offset + vector.len()];
-        for (sum, value) in sums.iter_mut().zip(vector) {
-            *sum += value;
+    fn resize_for_chunk(&mut self, len: usize, k: usize, dim: usize) {
+        self.dot_products.clear();
+        self.dot_products.resize(len * k, 0.0);
+        self.sums.clear();
+        self.sums.resize(k * dim, 0.0);
+    }
+}
+
+/// The state of the one fold: counts and sums run on through all blocks.
+struct ThreadLocalState {
+    buffer: KMeansBuffer,
+    counts: Vec<usize>,
+    sums: Vec<f32>,
+    candidates: Vec<(f32, usize)>,
+    assignments: Vec<(usize, Vec<usize>)>,
+}
+
+impl ThreadLocalState {
+    fn new(k: usize, dim: usize) -> Self {
+        Self {
+            buffer: KMeansBuffer::new(),
+            counts: vec![0; k],
+            sums: vec![0.0; k * dim],
+            candidates: vec![],
+            assignments: vec![],
+        }
+    }
+
+    fn into_summary(self) -> AssignmentSummary {
+        AssignmentSummary {
+            counts: self.counts,
+            sums: self.sums,
+            candidates: self.candidates,
         }
     }
 }
@@ -357,94 +368,82 @@ fn assign_points_for_update(
     centroid_col: &[f32],
     centroid_norms: &[f32],
     decode_block_size: usize,
-    slip: Slip,
 ) -> AssignmentSummary {
     let rows = norms.len();
-    let num_chunks = rows.div_ceil(decode_block_size);
-    let mut state = AssignmentSummary::new(k, dim);
-    let mut dot_products = Vec::new();
+    let blocks = rows.div_ceil(decode_block_size);
 
-    for chunk_idx in 0..num_chunks {
-        let start = chunk_idx * decode_block_size;
-        let end = ((chunk_idx + 1) * decode_block_size).min(rows);
+    let mut state = (0..blocks).fold(ThreadLocalState::new(k, dim), |mut state, block| {
+        let start = block * decode_block_size;
+        let end = rows.min(start + decode_block_size);
+        let len = end - start;
         let data_chunk = &data[start * dim..end * dim];
-        dot_products.resize((end - start) * k, 0.0f32);
-        sgemm(dim, k, data_chunk, centroid_col, &mut dot_products);
+        let norms_chunk = &norms[start..end];
 
-        let mut chunk_candidates: Vec<(f32, usize)> = Vec::new();
-        for (row, vector) in data_chunk.chunks_exact(dim).enumerate() {
-            let dots = &dot_products[row * k..(row + 1) * k];
-            let (best_cluster, best_distance) = nearest_cluster(
-                vector,
-                norms[start + row],
-                dots,
-                centroid_col,
-                centroid_norms,
-                slip,
-            );
-            assignments[start + row] = best_cluster;
-            state.count_row(best_cluster, vector);
-            insert_candidate(&mut chunk_candidates, (best_distance, row), slip);
+        state.buffer.resize_for_chunk(len, k, dim);
+
+        let dot_products = &mut state.buffer.dot_products;
+        sgemm(dim, k, data_chunk, centroid_col, dot_products);
+
+        // Said once here, the length needs no check at every score.
+        let centroid_norms = &centroid_norms[..k];
+        let mut labels = Vec::with_capacity(len);
+        let mut pool = vec![];
+
+        for row in 0..len {
+            let norm = norms_chunk[row];
+            let dots = &dot_products[row * k..][..k];
+            // A row that no score places gets cluster 0 at distance infinity.
+            let mut nearest = 0;
+            let mut least = f32::INFINITY;
+
+            for cluster in 0..k {
+                let mut score = norm + centroid_norms[cluster] - 2.0 * dots[cluster];
+                if score < 0.0 {
+                    score = 0.0;
+                }
+                if score < least {
+                    least = score;
+                    nearest = cluster;
+                }
+            }
+
+            labels.push(nearest);
+            state.counts[nearest] += 1;
+
+            let vector = &data_chunk[row * dim..][..dim];
+            let sums = &mut state.sums[nearest * dim..][..dim];
+            for d in 0..dim {
+                sums[d] += vector[d];
+            }
+
+            insert_candidate(&mut pool, (least, row));
         }
 
         // A position inside the block becomes a training position before blocks are joined.
-        for (dist, local_idx) in chunk_candidates {
-            state.candidates.push((dist, start + local_idx));
+        for (distance, position) in pool {
+            state.candidates.push((distance, start + position));
         }
+
+        state.assignments.push((start, labels));
+        state
+    });
+
+    state.assignments.sort_unstable_by_key(|block| block.0);
+    for (start, labels) in &state.assignments {
+        assignments[*start..][..labels.len()].copy_from_slice(labels);
     }
-    state
+
+    state.into_summary()
 }
 
-/// The loop over clusters that training and the final labelling share: an unplaced row gets
-/// cluster 0 at distance infinity.
-fn nearest_cluster(
-    vector: &[f32],
-    norm: f32,
-    dots: &[f32],
-    centroid_col: &[f32],
-    centroid_norms: &[f32],
-    slip: Slip,
-) -> (usize, f32) {
-    let mut best_cluster = 0usize;
-    let mut best_distance = f32::INFINITY;
-
-    for (cluster, (&dot, &centroid_norm)) in dots.iter().zip(centroid_norms).enumerate() {
-        let mut distance = match slip {
-            Slip::SquaredDifferences => {
-                column_distance_sqr(vector, centroid_col, dots.len(), cluster)
-            }
-            _ => norm + centroid_norm - 2.0 * dot,
-        };
-        if distance < 0.0 {
-            distance = 0.0;
-        }
-        if distance < best_distance {
-            best_distance = distance;
-            best_cluster = cluster;
-        }
-    }
-    (best_cluster, best_distance)
-}
-
-/// The source leaves ties to an unstable sort; here the lower position goes first.
-fn farther_first(a: &(f32, usize), b: &(f32, usize)) -> Ordering {
-    b.0.partial_cmp(&a.0)
-        .unwrap_or(Ordering::Equal)
-        .then(a.1.cmp(&b.1))
-}
-
-fn insert_candidate(candidates: &mut Vec<(f32, usize)>, candidate: (f32, usize), slip: Slip) {
+fn insert_candidate(candidates: &mut Vec<(f32, usize)>, candidate: (f32, usize)) {
     if candidates.len() < RESEED_CANDIDATES {
         candidates.push(candidate);
         candidates.sort_unstable_by(farther_first);
         return;
     }
-    if let Some((last_dist, _)) = candidates.last() {
-        let enters = match slip {
-            Slip::EqualLaterRow => candidate.0 >= *last_dist,
-            _ => candidate.0 > *last_dist,
-        };
-        if enters {
+    if let Some(last) = candidates.last() {
+        if candidate.0 > last.0 {
             candidates.pop();
             candidates.push(candidate);
             candidates.sort_unstable_by(farther_first);
@@ -460,44 +459,38 @@ fn update_centroids(
     summary: &AssignmentSummary,
     draws: &mut Draws,
 ) {
-    let total_rows = data.len() / dim;
-    let mut candidate_iter = distinct_candidates(summary, total_rows).into_iter();
+    let rows = data.len() / dim;
+    let mut pool = summary.candidates.clone();
+    pool.sort_unstable_by(farther_first);
+    let mut used = vec![false; rows];
+    let mut refills = vec![];
+    for (_, position) in pool {
+        if !used[position] {
+            used[position] = true;
+            refills.push(position);
+        }
+    }
+    let mut refills = refills.into_iter();
 
     for cluster in 0..k {
-        let offset = cluster * dim;
+        let centroid = &mut centroids[cluster * dim..][..dim];
         let count = summary.counts[cluster];
         if count > 0 {
-            let inv = 1.0 / count as f32;
+            let inverse = 1.0 / count as f32;
+            let sums = &summary.sums[cluster * dim..][..dim];
             for d in 0..dim {
-                centroids[offset + d] = summary.sums[offset + d] * inv;
+                centroid[d] = sums[d] * inverse;
             }
         } else {
-            let replacement_index = candidate_iter
+            let position = refills
                 .next()
-                .unwrap_or_else(|| draws.drawn() as usize % total_rows);
-            let source = &data[replacement_index * dim..(replacement_index + 1) * dim];
-            centroids[offset..offset + dim].copy_from_slice(source);
+                .unwrap_or_else(|| draws.drawn() as usize % rows);
+            centroid.copy_from_slice(&data[position * dim..][..dim]);
         }
     }
 }
 
-/// The joined pool in order, each row once.
-fn distinct_candidates(summary: &AssignmentSummary, total_rows: usize) -> Vec<usize> {
-    let mut candidate_pool = summary.candidates.clone();
-    candidate_pool.sort_unstable_by(farther_first);
-    let mut used = vec![false; total_rows];
-    let mut candidate_indices = Vec::new();
-    for (_, idx) in candidate_pool {
-        if !used[idx] {
-            used[idx] = true;
-            candidate_indices.push(idx);
-        }
-    }
-    candidate_indices
-}
-
-#[allow(clippy::too_many_arguments)]
-fn assign_full_dataset(
+pub(crate) fn assign_full_dataset(
     data: &[f32],
     norms: &[f32],
     k: usize,
@@ -505,23 +498,29 @@ fn assign_full_dataset(
     centroid_col: &[f32],
     centroid_norms: &[f32],
     decode_block_size: usize,
-    slip: Slip,
 ) -> Vec<usize> {
     let rows = norms.len();
-    let num_chunks = rows.div_ceil(decode_block_size);
-    let mut assignments = Vec::with_capacity(rows);
-    for chunk_idx in 0..num_chunks {
-        let start = chunk_idx * decode_block_size;
-        let end = ((chunk_idx + 1) * decode_block_size).min(rows);
-        assignments.extend(compute_chunk_assignments_only(
-            &data[start * dim..end * dim],
-            &norms[start..end],
-            k,
-            dim,
-            centroid_col,
-            centroid_norms,
-            slip,
-        ));
+    let blocks = rows.div_ceil(decode_block_size);
+    let labels_of_blocks: Vec<(usize, Vec<usize>)> = (0..blocks)
+        .map(|block| {
+            let start = block * decode_block_size;
+            let end = rows.min(start + decode_block_size);
+            let labels = compute_chunk_assignments_only(
+                &data[start * dim..end * dim],
+                &norms[start..end],
+                end - start,
+                k,
+                dim,
+                centroid_col,
+                centroid_norms,
+            );
+            (start, labels)
+        })
+        .collect();
+
+    let mut assignments = vec![0; rows];
+    for (start, labels) in labels_of_blocks {
+        assignments[start..][..labels.len()].copy_from_slice(&labels);
     }
     assignments
 }
@@ -529,27 +528,45 @@ fn assign_full_dataset(
 fn compute_chunk_assignments_only(
     data_chunk: &[f32],
     norms_chunk: &[f32],
+    len: usize,
     k: usize,
     dim: usize,
     centroid_col: &[f32],
     centroid_norms: &[f32],
-    slip: Slip,
 ) -> Vec<usize> {
-    let mut dot_products = vec![0.0f32; norms_chunk.len() * k];
+    let mut dot_products = vec![0.0; len * k];
     sgemm(dim, k, data_chunk, centroid_col, &mut dot_products);
 
-    let mut assignments = Vec::with_capacity(norms_chunk.len());
-    let dots_of_rows = dot_products.chunks_exact(k);
-    for ((vector, &norm), dots) in data_chunk
-        .chunks_exact(dim)
-        .zip(norms_chunk)
-        .zip(dots_of_rows)
-    {
-        let (best_cluster, _) =
-            nearest_cluster(vector, norm, dots, centroid_col, centroid_norms, slip);
-        assignments.push(best_cluster);
+    // Said once here, the length needs no check at every score.
+    let centroid_norms = &centroid_norms[..k];
+    let mut labels = Vec::with_capacity(len);
+    for row in 0..len {
+        let norm = norms_chunk[row];
+        let dots = &dot_products[row * k..][..k];
+        let mut nearest = 0;
+        let mut least = f32::INFINITY;
+        for cluster in 0..k {
+            let mut score = norm + centroid_norms[cluster] - 2.0 * dots[cluster];
+            if score < 0.0 {
+                score = 0.0;
+            }
+            if score < least {
+                least = score;
+                nearest = cluster;
+            }
+        }
+        labels.push(nearest);
     }
-    assignments
+    labels
+}
+
+// ---- not in the source
+
+/// The order of the pool: ties, which the source leaves to an unstable sort, by position.
+fn farther_first(a: &(f32, usize), b: &(f32, usize)) -> Ordering {
+    b.0.partial_cmp(&a.0)
+        .unwrap_or(Ordering::Equal)
+        .then(a.1.cmp(&b.1))
 }
 
 #[cfg(test)]
@@ -560,7 +577,7 @@ mod tests {
     fn pool_of(distances: &[f32]) -> Vec<(f32, usize)> {
         let mut pool = Vec::new();
         for (row, &distance) in distances.iter().enumerate() {
-            insert_candidate(&mut pool, (distance, row), Slip::None);
+            insert_candidate(&mut pool, (distance, row));
         }
         pool
     }
@@ -592,17 +609,8 @@ mod tests {
         let norms = compute_norms(&data, 3, 1);
         for block in [1, 2, 3] {
             let mut labels = [0; 3];
-            let summary = assign_points_for_update(
-                &data,
-                &norms,
-                &mut labels,
-                1,
-                1,
-                &[0.0],
-                &[0.0],
-                block,
-                Slip::None,
-            );
+            let summary =
+                assign_points_for_update(&data, &norms, &mut labels, 1, 1, &[0.0], &[0.0], block);
             assert_eq!(summary.sums, [16_777_216.0]);
             assert_eq!(summary.counts, [3]);
         }
@@ -611,8 +619,11 @@ mod tests {
     #[test]
     fn refills_come_from_the_pool_first_and_then_from_draws() {
         let data = [5.0, 6.0, 7.0];
-        let mut summary = AssignmentSummary::new(3, 1);
-        summary.candidates = vec![(4.0, 2)];
+        let summary = AssignmentSummary {
+            counts: vec![0; 3],
+            sums: vec![0.0; 3],
+            candidates: vec![(4.0, 2)],
+        };
         let list = [4];
         let mut draws = Draws::new(&list);
         let mut centroids = [0.0; 3];

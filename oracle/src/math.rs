@@ -1,22 +1,6 @@
-//! The sums in stated order: f32, from +0.0, index ascending, each product rounded before it is
-//! added. Loops are written out because `Iterator::sum` of floats starts at -0.0.
-
-/// Sum of v·v.
-#[inline]
-pub fn norm(v: &[f32]) -> f32 {
-    dot(v, v)
-}
-
-/// Sum of a·b.
-#[inline]
-pub fn dot(a: &[f32], b: &[f32]) -> f32 {
-    assert_eq!(a.len(), b.len());
-    let mut sum = 0.0f32;
-    for (x, y) in a.iter().zip(b) {
-        sum += x * y;
-    }
-    sum
-}
+//! `l2_distance_sqr` of `src/math.rs` of the source, and what stands for `sgemm` of another crate:
+//! sums in stated order, f32, from +0.0, index ascending, each product rounded before it is added.
+//! Loops are written out because `Iterator::sum` of floats starts at -0.0.
 
 /// Sum of (a−b)·(a−b).
 #[inline]
@@ -30,6 +14,8 @@ pub fn l2_distance_sqr(a: &[f32], b: &[f32]) -> f32 {
     sum
 }
 
+// ---- not in the source
+
 /// The matrix product that scoring needs: rows of `dim` values against `k` centroids that lie as
 /// columns, one dot at a time so that each has the stated order.
 pub fn sgemm(dim: usize, k: usize, data: &[f32], columns: &[f32], dot_products: &mut [f32]) {
@@ -40,22 +26,12 @@ pub fn sgemm(dim: usize, k: usize, data: &[f32], columns: &[f32], dot_products: 
     }
 }
 
-/// `dot` of a row and one column; lines of exactly `k` values need no copy of the column.
+/// Sum of a·b for a row and one column; lines of exactly `k` values need no copy of the column.
 #[inline]
 fn column_dot(row: &[f32], columns: &[f32], k: usize, cluster: usize) -> f32 {
     let mut sum = 0.0f32;
     for (x, line) in row.iter().zip(columns.chunks_exact(k)) {
         sum += x * line[cluster];
-    }
-    sum
-}
-
-/// `l2_distance_sqr` of a row and one column, for the slip that scores by it.
-pub fn column_distance_sqr(row: &[f32], columns: &[f32], k: usize, cluster: usize) -> f32 {
-    let mut sum = 0.0f32;
-    for (x, line) in row.iter().zip(columns.chunks_exact(k)) {
-        let diff = x - line[cluster];
-        sum += diff * diff;
     }
     sum
 }

@@ -7,7 +7,6 @@ use oracle::cases::{
     BatchCase, Case, ClosureBytesCase, ClosureCase, GroupingCase, GroupingOutcome, KMeansCase,
     LabelBytesCase, LabelCase,
 };
-use oracle::slips::Slip;
 
 const SEED: u64 = 7;
 const CASES: u64 = 2_500;
@@ -23,7 +22,7 @@ fn all<C: Case>() -> impl Iterator<Item = C> {
 fn assert_met<C: Case>(numbers: &[u32]) {
     let mut met: BTreeMap<u32, usize> = BTreeMap::new();
     for case in all::<C>() {
-        *met.entry(C::number(&case.run(Slip::None))).or_default() += 1;
+        *met.entry(C::number(&case.run())).or_default() += 1;
     }
     println!("{}: {met:?}", C::NAME);
     assert_eq!(met.keys().copied().collect::<Vec<_>>(), numbers);
@@ -53,7 +52,7 @@ fn assert_repeatable<C: Case>() {
     for index in 0..60 {
         let (once, again) = (C::generate(SEED, index), C::generate(SEED, index));
         assert_eq!(format!("{once:?}"), format!("{again:?}"));
-        assert_eq!(once.run(Slip::None), again.run(Slip::None));
+        assert_eq!(once.run(), again.run());
     }
 }
 
@@ -79,24 +78,24 @@ fn zero(floats: &[u32]) -> bool {
 #[test]
 fn a_refusal_leaves_only_blanks() {
     for case in all::<LabelCase>() {
-        let outcome = case.run(Slip::None);
+        let outcome = case.run();
         assert!(outcome.answer.is_ok() || blank(&outcome.labels));
     }
     for case in all::<KMeansCase>() {
-        let outcome = case.run(Slip::None);
+        let outcome = case.run();
         let blanks = blank(&outcome.labels) && zero(&outcome.centroids);
         assert!(outcome.answer.is_ok() || blanks);
     }
     for case in all::<ClosureCase>() {
-        let outcome = case.run(Slip::None);
+        let outcome = case.run();
         assert!(outcome.answer.is_ok() || blank(&outcome.cells));
     }
     for case in all::<LabelBytesCase>() {
-        let outcome = case.run(Slip::None);
+        let outcome = case.run();
         assert!(outcome.number == 0 || outcome.result.iter().all(|&byte| byte == 255));
     }
     for case in all::<ClosureBytesCase>() {
-        let outcome = case.run(Slip::None);
+        let outcome = case.run();
         assert!(outcome.number == 0 || outcome.result.iter().all(|&byte| byte == 255));
     }
 }
@@ -120,7 +119,7 @@ fn assert_partition(case: &GroupingCase, outcome: &GroupingOutcome, groups: usiz
 #[test]
 fn an_accepted_grouping_holds_each_row_once() {
     for case in all::<GroupingCase>() {
-        let outcome = case.run(Slip::None);
+        let outcome = case.run();
         if let Ok(accepted) = outcome.answer {
             assert_partition(&case, &outcome, accepted.groups as usize);
             assert!(accepted.splits <= case.numbers.budget);
@@ -135,7 +134,7 @@ fn a_label_depends_on_its_own_row() {
     let bytes =
         |values: &[f32]| -> Vec<u8> { values.iter().flat_map(|v| v.to_le_bytes()).collect() };
     for case in all::<LabelCase>() {
-        let outcome = case.run(Slip::None);
+        let outcome = case.run();
         if outcome.answer.is_err() || case.rows > 60 {
             continue;
         }
@@ -151,7 +150,7 @@ fn a_label_depends_on_its_own_row() {
 #[test]
 fn kmeans_labels_are_labels_of_its_centroids() {
     for case in all::<KMeansCase>() {
-        let outcome = case.run(Slip::None);
+        let outcome = case.run();
         if outcome.answer.is_err() {
             continue;
         }
@@ -168,12 +167,12 @@ fn kmeans_labels_are_labels_of_its_centroids() {
                 .collect(),
             label_cells: case.label_cells,
         };
-        assert_eq!(labelling.run(Slip::None).labels, outcome.labels);
+        assert_eq!(labelling.run().labels, outcome.labels);
     }
 }
 
 fn objective_of(case: &KMeansCase) -> (f64, u32) {
-    let (bits, restart) = case.run(Slip::None).answer.unwrap();
+    let (bits, restart) = case.run().answer.unwrap();
     (f64::from_bits(bits), restart)
 }
 
@@ -189,7 +188,7 @@ fn a_nan_first_objective_is_never_beaten() {
     second.numbers.restarts = 1;
     second.draws.drain(8..10);
     assert_eq!(objective_of(&second), (f64::INFINITY, 0));
-    let (kept, other) = (case.run(Slip::None), second.run(Slip::None));
+    let (kept, other) = (case.run(), second.run());
     assert_ne!(kept.centroids, other.centroids);
 }
 
@@ -207,7 +206,7 @@ fn a_later_nan_objective_beats_nothing() {
 fn later_restarts_are_kept_and_ties_keep_the_first() {
     let mut later = 0;
     for case in all::<KMeansCase>() {
-        if let Ok((_, restart)) = case.run(Slip::None).answer {
+        if let Ok((_, restart)) = case.run().answer {
             later += u32::from(restart > 0);
         }
     }

@@ -5,12 +5,11 @@ use oracle::calls::*;
 use oracle::cases::{file_of, Case};
 use oracle::cases::{ClosureBytesCase, ClosureCase, GroupingCase, KMeansCase, LabelBytesCase};
 use oracle::cases::{LabelCase, STALE_BYTE};
-use oracle::slips::Slip;
 
 const FAR: [u32; 3] = [65_536, 1 << 31, u32::MAX];
 
 fn number_of<C: Case>(case: &C) -> u32 {
-    C::number(&case.run(Slip::None))
+    C::number(&case.run())
 }
 
 /// Sets a number to both ends of its range and past them; ends must not give 1.
@@ -342,7 +341,7 @@ fn refusal_5_two_centroids_and_a_nan_distance() {
     one.count = 1;
     one.centroids = vec![f32::NAN; 2];
     one.cells = 1;
-    let outcome = one.run(Slip::None);
+    let outcome = one.run();
     assert_eq!((outcome.answer, outcome.cells), (Ok(0), vec![65_535]));
 }
 
@@ -411,13 +410,13 @@ fn wrong_lengths_are_blanked_too() {
     let mut case = kmeans_case();
     case.label_cells = 7;
     case.centroid_cells = 9;
-    let outcome = case.run(Slip::None);
+    let outcome = case.run();
     assert_eq!(outcome.labels, [65_535; 7]);
     assert_eq!(outcome.centroids, [0; 9]);
 
     let mut case = grouping_case();
     (case.order_cells, case.end_cells, case.mean_cells) = (1, 5, 11);
-    let outcome = case.run(Slip::None);
+    let outcome = case.run();
     assert_eq!(outcome.order, [65_535; 1]);
     assert_eq!(outcome.ends, [65_535; 5]);
     assert_eq!(outcome.means, [0; 11]);

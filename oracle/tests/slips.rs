@@ -1,69 +1,79 @@
 //! The generated cases tell each slip of document 01 apart from the oracle.
 
-use oracle::cases::{Case, GroupingCase, KMeansCase, LabelCase};
-use oracle::slips::Slip;
-
 const SEED: u64 = 20_260_226;
 const CASES: u64 = 1_500;
+const SAME_CASES: u64 = 300;
 
-/// How many of the generated cases come out otherwise with the slip.
-fn told_apart<C: Case>(slip: Slip) -> usize {
-    (0..CASES)
-        .map(|index| C::generate(SEED, index))
-        .filter(|case| case.run(Slip::None) != case.run(slip))
+/// What the case of an index comes to, as text: a copy of the oracle with a slip in it has types of
+/// its own, and two outcomes are equal exactly when their texts are.
+macro_rules! outcome {
+    ($($oracle:ident)::+, $case:ident) => {
+        |index| {
+            use $($oracle)::+::cases::{Case, $case};
+            format!("{:?}", $case::generate(SEED, index).run())
+        }
+    };
+}
+
+fn differing(cases: u64, right: fn(u64) -> String, wrong: fn(u64) -> String) -> usize {
+    (0..cases)
+        .filter(|&index| right(index) != wrong(index))
         .count()
 }
 
-fn assert_told_apart<C: Case>(slip: Slip) {
-    let count = told_apart::<C>(slip);
-    println!("{slip:?}: {count} of {CASES} {} cases differ", C::NAME);
-    assert!(count > 0, "no {} case tells {slip:?} apart", C::NAME);
+macro_rules! assert_told_apart {
+    ($slip:ident, $case:ident) => {
+        let (right, wrong) = (outcome!(oracle, $case), outcome!(slipped::$slip, $case));
+        let count = differing(CASES, right, wrong);
+        let (slip, case) = (stringify!($slip), stringify!($case));
+        println!("{slip}: {count} of {CASES} {case} differ");
+        assert!(count > 0, "no {case} tells {slip} apart");
+    };
+}
+
+macro_rules! assert_same {
+    ($case:ident: $($slip:ident),+) => {
+        $(
+            let (right, wrong) = (outcome!(oracle, $case), outcome!(slipped::$slip, $case));
+            assert_eq!(differing(SAME_CASES, right, wrong), 0);
+        )+
+    };
 }
 
 #[test]
 fn scoring_by_squared_differences() {
-    assert_told_apart::<LabelCase>(Slip::SquaredDifferences);
-    assert_told_apart::<KMeansCase>(Slip::SquaredDifferences);
-    assert_told_apart::<GroupingCase>(Slip::SquaredDifferences);
+    assert_told_apart!(squared_differences, LabelCase);
+    assert_told_apart!(squared_differences, KMeansCase);
+    assert_told_apart!(squared_differences, GroupingCase);
 }
 
 #[test]
 fn widening_before_the_subtraction() {
-    assert_told_apart::<KMeansCase>(Slip::WideningFirst);
+    assert_told_apart!(widening_first, KMeansCase);
 }
 
 #[test]
 fn the_inverse_where_grouping_divides() {
-    assert_told_apart::<GroupingCase>(Slip::InverseMean);
+    assert_told_apart!(inverse_mean, GroupingCase);
 }
 
 #[test]
 fn balancing_toward_the_mean_of_the_moved_rows() {
-    assert_told_apart::<GroupingCase>(Slip::BalanceTowardMean);
+    assert_told_apart!(balance_toward_mean, GroupingCase);
 }
 
 #[test]
 fn finishing_groups_in_first_come_order() {
-    assert_told_apart::<GroupingCase>(Slip::FirstCome);
+    assert_told_apart!(first_come, GroupingCase);
 }
 
 #[test]
 fn letting_an_equal_later_row_into_a_full_pool() {
-    assert_told_apart::<KMeansCase>(Slip::EqualLaterRow);
+    assert_told_apart!(equal_later_row, KMeansCase);
 }
 
 #[test]
 fn a_slip_changes_only_its_own_place() {
-    for index in 0..300 {
-        let case = LabelCase::generate(SEED, index);
-        for slip in Slip::ALL {
-            if slip != Slip::SquaredDifferences {
-                assert_eq!(case.run(slip), case.run(Slip::None));
-            }
-        }
-        let case = KMeansCase::generate(SEED, index);
-        for slip in [Slip::InverseMean, Slip::BalanceTowardMean, Slip::FirstCome] {
-            assert_eq!(case.run(slip), case.run(Slip::None));
-        }
-    }
+    assert_same!(LabelCase: widening_first, inverse_mean, balance_toward_mean, first_come, equal_later_row);
+    assert_same!(KMeansCase: inverse_mean, balance_toward_mean, first_come);
 }

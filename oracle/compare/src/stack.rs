@@ -6,7 +6,6 @@ use std::process::{Command, Stdio};
 
 use families::stack::{on_thread, BEGUN, STATED};
 use oracle::cases::{BatchCase, Case};
-use oracle::slips::Slip;
 
 use crate::files;
 use crate::proved::Compared;
@@ -59,7 +58,7 @@ where
 {
     let ours: Vec<_> = on_thread(stack, || cases.iter().map(call).collect());
     let both = ours.into_iter().zip(&cases);
-    let agrees = |(ours, case): &(Option<C::Outcome>, &C)| *ours == Some(case.run(Slip::None));
+    let agrees = |(ours, case): &(Option<C::Outcome>, &C)| *ours == Some(case.run());
     let passed = both.filter(agrees).count();
     (passed, cases.len() - passed)
 }

@@ -3,8 +3,6 @@
 use std::collections::BTreeMap;
 use std::fmt::Debug;
 
-use oracle::slips::Slip;
-
 use crate::proved::Compared;
 
 /// How many cases that differ are shown whole.
@@ -23,7 +21,7 @@ pub struct Tally {
 impl Tally {
     /// Hands a case to both sides.
     pub fn add<C: Compared>(&mut self, name: &str, case: &C) {
-        let (ours, theirs) = (case.proved(), case.run(Slip::None));
+        let (ours, theirs) = (case.proved(), case.run());
         for kind in case.kinds(&theirs) {
             self.meet(kind);
         }

@@ -7,7 +7,6 @@ use std::io::Write;
 use oracle::calls::words_of;
 use oracle::cases::{BatchCase, Case, ClosureBytesCase, KMeansCase, LabelBytesCase};
 use oracle::refusal::Refusal;
-use oracle::slips::Slip;
 
 const RECORD: usize = 384;
 const HEAD_WORDS: usize = 16;
@@ -141,7 +140,7 @@ fn sample<C: Stored>() -> Vec<u8> {
     let generated = (0..LOOKED_AT).map(|index| C::generate(SEED, index));
     let mut by_number: BTreeMap<u32, Vec<Vec<u8>>> = BTreeMap::new();
     for case in C::built().into_iter().chain(generated) {
-        let outcome = case.run(Slip::None);
+        let outcome = case.run();
         if !case.can_be_stored(&outcome) {
             continue;
         }

@@ -5,7 +5,6 @@ use super::{outside, Case, GroupingCase};
 use crate::batch::{listing, MAX_FILE_BYTES, TRAILER_BYTES};
 use crate::calls::{GroupingNumbers, DIM, K, ROWS, SIZE_LIMIT, SPLIT_BUDGET};
 use crate::random::Random;
-use crate::slips::Slip;
 
 #[derive(Clone, Debug, PartialEq, Eq)]
 pub struct BatchCase {
@@ -193,7 +192,7 @@ impl Case for BatchCase {
         cases
     }
 
-    fn run(&self, _slip: Slip) -> Vec<u8> {
+    fn run(&self) -> Vec<u8> {
         listing(&self.file)
     }
 

@@ -3,7 +3,6 @@
 use super::{outside, size, usual_dim, wrong_length, Case, ClosureCase, LabelCase, STALE_BYTE};
 use crate::calls::{closure_bytes, label_bytes, CENTROID_COUNT, DIM, K};
 use crate::random::Random;
-use crate::slips::Slip;
 
 #[derive(Clone, Debug)]
 pub struct LabelBytesCase {
@@ -102,7 +101,7 @@ impl Case for LabelBytesCase {
         LabelCase::built().iter().map(Self::from).collect()
     }
 
-    fn run(&self, _slip: Slip) -> BytesOutcome {
+    fn run(&self) -> BytesOutcome {
         let mut result = vec![STALE_BYTE; self.result_bytes];
         let number = label_bytes(self.dim, self.k, &self.row, &self.centroids, &mut result);
         BytesOutcome { number, result }
@@ -157,7 +156,7 @@ impl Case for ClosureBytesCase {
         ClosureCase::built().iter().map(Self::from).collect()
     }
 
-    fn run(&self, _slip: Slip) -> BytesOutcome {
+    fn run(&self) -> BytesOutcome {
         let mut result = vec![STALE_BYTE; self.result_bytes];
         let number = closure_bytes(
             self.dim,

@@ -5,7 +5,6 @@ use super::{length_of, outside, size, usual_dim, wrong_length, Case, Spoils, STA
 use crate::calls::{closure, CENTROID_COUNT, DIM};
 use crate::random::Random;
 use crate::refusal::Refusal;
-use crate::slips::Slip;
 
 const EPSILONS: [f32; 16] = [
     0.0,
@@ -137,7 +136,7 @@ impl Case for ClosureCase {
         ]
     }
 
-    fn run(&self, _slip: Slip) -> ClosureOutcome {
+    fn run(&self) -> ClosureOutcome {
         let mut cells = vec![STALE_CELL; self.cells];
         let answer = closure(
             self.dim,

@@ -11,7 +11,6 @@ use crate::calls::{
 };
 use crate::random::Random;
 use crate::refusal::Refusal;
-use crate::slips::Slip;
 
 /// Products that a stubborn group's splits may cost together.
 const COST: u32 = 2_000_000;
@@ -241,7 +240,7 @@ impl Case for GroupingCase {
         cases
     }
 
-    fn run(&self, slip: Slip) -> GroupingOutcome {
+    fn run(&self) -> GroupingOutcome {
         let mut order = vec![STALE_CELL; self.order_cells];
         let mut ends = vec![STALE_CELL; self.end_cells];
         let mut means = vec![STALE_FLOAT; self.mean_cells];
@@ -255,7 +254,6 @@ impl Case for GroupingCase {
                 ends: &mut ends,
                 means: &mut means,
             },
-            slip,
         );
         GroupingOutcome::new(answer, order, ends, &means)
     }

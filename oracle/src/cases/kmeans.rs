@@ -11,7 +11,6 @@ use crate::calls::{
 };
 use crate::random::Random;
 use crate::refusal::Refusal;
-use crate::slips::Slip;
 
 /// Products a case may cost, so that tens of thousands of cases take seconds.
 const COST: u32 = 1_000_000;
@@ -223,7 +222,7 @@ impl Case for KMeansCase {
         ]
     }
 
-    fn run(&self, slip: Slip) -> KMeansOutcome {
+    fn run(&self) -> KMeansOutcome {
         let mut labels = vec![STALE_CELL; self.label_cells];
         let mut centroids = vec![STALE_FLOAT; self.centroid_cells];
         let answer = kmeans(
@@ -235,7 +234,6 @@ impl Case for KMeansCase {
                 labels: &mut labels,
                 centroids: &mut centroids,
             },
-            slip,
         );
         KMeansOutcome::new(answer, labels, &centroids)
     }

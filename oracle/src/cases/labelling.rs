@@ -5,7 +5,6 @@ use super::{length_of, outside, size, usual_dim, wrong_length, Case, Spoils, STA
 use crate::calls::{labelling, DIM, K, ROWS};
 use crate::random::Random;
 use crate::refusal::Refusal;
-use crate::slips::Slip;
 
 #[derive(Clone, Debug)]
 pub struct LabelCase {
@@ -105,7 +104,7 @@ impl Case for LabelCase {
         ]
     }
 
-    fn run(&self, slip: Slip) -> LabelOutcome {
+    fn run(&self) -> LabelOutcome {
         let mut labels = vec![STALE_CELL; self.label_cells];
         let answer = labelling(
             self.rows,
@@ -114,7 +113,6 @@ impl Case for LabelCase {
             &self.values,
             &self.centroids,
             &mut labels,
-            slip,
         );
         LabelOutcome { answer, labels }
     }

@@ -6,7 +6,6 @@ use compare::timing::{as_long, rows_around, side_by_side, values, wanted};
 use families::exported::{self, KMeansNumbers, KMeansWork};
 use oracle::calls;
 use oracle::random::Random;
-use oracle::slips::Slip;
 
 const ROWS: usize = 4_096;
 const TRAY: usize = 40;
@@ -38,7 +37,6 @@ fn labelling(rounds: usize, count: usize, dim: usize, k: usize) {
                 &rows,
                 &centroids,
                 &mut theirs,
-                Slip::None,
             );
         },
     );
@@ -111,7 +109,7 @@ fn kmeans(rounds: usize, dim: usize, k: usize, kind: Rows) {
                 labels: &mut others.0,
                 centroids: &mut others.1,
             };
-            let _ = calls::kmeans(&theirs, &rows, &draws, true, lent, Slip::None);
+            let _ = calls::kmeans(&theirs, &rows, &draws, true, lent);
         },
     );
     assert_eq!(mine, others);

@@ -6,7 +6,6 @@ use compare::timing::{as_long, rows_around, values, wanted};
 use families::exported::{self, GroupNumbers, GroupTold, GroupWork};
 use oracle::calls::{self, GroupingAccepted, GroupingLent, GroupingNumbers};
 use oracle::random::Random;
-use oracle::slips::Slip;
 
 /// Whole batches, and one split of a group that is just above the limit.
 const SHAPES: [(usize, usize); 4] = [(4_096, 3), (1_000, 16), (41, 3), (41, 16)];
@@ -100,7 +99,7 @@ impl Batch {
             means: &mut results.means,
         };
         let (values, draws) = (&self.values, &self.draws);
-        calls::grouping(&self.numbers, values, draws, true, lent, Slip::None)
+        calls::grouping(&self.numbers, values, draws, true, lent)
             .expect("the batch is one that is accepted")
     }
 }

@@ -4,7 +4,6 @@ use families::exported::{self, GroupNumbers, GroupWork};
 use oracle::calls::GroupingAccepted;
 use oracle::cases::{Case, GroupingCase, GroupingOutcome, STALE_CELL, STALE_FLOAT};
 use oracle::random::Random;
-use oracle::slips::Slip;
 
 use super::{answer, spoil, wrong_kind, Compared, Proved};
 use crate::tally::{number_kind, Need};
@@ -37,7 +36,7 @@ fn work_of(case: &GroupingCase) -> GroupWork {
 fn balancing_shows(case: &GroupingCase, outcome: &GroupingOutcome) -> bool {
     let mut plain = case.clone();
     plain.numbers.weight = 0.0;
-    case.numbers.weight > 0.0 && plain.run(Slip::None) != *outcome
+    case.numbers.weight > 0.0 && plain.run() != *outcome
 }
 
 fn accepted_kinds(case: &GroupingCase, outcome: &GroupingOutcome, splits: u32) -> Vec<String> {

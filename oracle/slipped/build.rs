@@ -1,0 +1,129 @@
+//! Copies the oracle's text once for each slip and turns the slip's place in the copy wrong.
+
+use std::path::{Path, PathBuf};
+use std::{env, fs};
+
+/// A slip has the name of its module and stands in one file: what the oracle says there, in how
+/// many places, and what the slip says instead.
+struct Slip {
+    name: &'static str,
+    file: &'static str,
+    edits: &'static [(&'static str, usize, &'static str)],
+}
+
+const SLIPS: [Slip; 6] = [
+    // Scores are squared differences instead of the norm formula.
+    Slip {
+        name: "squared_differences",
+        file: "kmeans.rs",
+        edits: &[(
+            "norm + centroid_norms[cluster] - 2.0 * dots[cluster]",
+            2,
+            "(0..dim).fold(0.0, |sum: f32, d| {
+                let diff = data_chunk[row * dim + d] - centroid_col[d * k + cluster];
+                sum + diff * diff
+            })",
+        )],
+    },
+    // The objective widens to f64 before it subtracts.
+    Slip {
+        name: "widening_first",
+        file: "kmeans.rs",
+        edits: &[(
+            "f64::from(point[d] - centroid[d])",
+            1,
+            "f64::from(point[d]) - f64::from(centroid[d])",
+        )],
+    },
+    // The mean of a group is its sum times the inverse of its size.
+    Slip {
+        name: "inverse_mean",
+        file: "clustering.rs",
+        edits: &[("*sum /= count;", 1, "*sum *= 1.0 / count;")],
+    },
+    // Once a row has moved, the receiver's centroid is the mean of the rows it then holds.
+    Slip {
+        name: "balance_toward_mean",
+        file: "clustering.rs",
+        edits: &[
+            (
+                "for _round in 0..10 {",
+                1,
+                "let mut centroids = centroids.to_vec();
+                for _round in 0..10 {",
+            ),
+            (
+                "clusters[receiver].push(moved);",
+                1,
+                "clusters[receiver].push(moved);
+                centroids[receiver] = compute_centroid(&clusters[receiver]);",
+            ),
+        ],
+    },
+    // The waiting group that came first is taken first.
+    Slip {
+        name: "first_come",
+        file: "clustering.rs",
+        edits: &[(
+            "waiting.pop()",
+            1,
+            "(!waiting.is_empty()).then(|| waiting.remove(0))",
+        )],
+    },
+    // A row as far as the last of a full pool takes that one's place.
+    Slip {
+        name: "equal_later_row",
+        file: "kmeans.rs",
+        edits: &[("candidate.0 > last.0", 1, "candidate.0 >= last.0")],
+    },
+];
+
+impl Slip {
+    /// The text of a file with the slip in it; a place that is not found as stated fails the build.
+    fn applied(&self, file: &Path, mut text: String) -> String {
+        if file == Path::new(self.file) {
+            for &(right, places, wrong) in self.edits {
+                assert_eq!(text.matches(right).count(), places, "places of {right}");
+                text = text.replace(right, wrong);
+            }
+        }
+        text.replace("crate::", &format!("crate::{}::", self.name))
+    }
+}
+
+/// The files below a folder, named from there.
+fn files_below(root: &Path, folder: &Path) -> Vec<PathBuf> {
+    let mut files = vec![];
+    for entry in fs::read_dir(root.join(folder)).expect("the oracle's folder") {
+        let path = folder.join(entry.expect("an entry").file_name());
+        if root.join(&path).is_dir() {
+            files.extend(files_below(root, &path));
+        } else {
+            files.push(path);
+        }
+    }
+    files
+}
+
+fn main() {
+    let folder = |name| PathBuf::from(env::var_os(name).expect("cargo says where"));
+    let oracle = folder("CARGO_MANIFEST_DIR").join("../src");
+    let out = folder("OUT_DIR");
+    println!("cargo:rerun-if-changed={}", oracle.display());
+
+    let mut modules = String::new();
+    for slip in SLIPS {
+        let copy = out.join(slip.name);
+        for file in files_below(&oracle, Path::new("")) {
+            let text = fs::read_to_string(oracle.join(&file)).expect("the oracle's text");
+            let path = copy.join(&file);
+            fs::create_dir_all(path.parent().expect("a folder")).expect("a folder for the copy");
+            fs::write(path, slip.applied(&file, text)).expect("the copy");
+        }
+        let path = copy.join("lib.rs");
+        // What only the right text reads is left unread.
+        modules += &format!("#[allow(unused_variables)]\n#[path = {path:?}]\n");
+        modules += &format!("pub mod {};\n", slip.name);
+    }
+    fs::write(out.join("modules.rs"), modules).expect("the list of modules");
+}
