@@ -17,10 +17,10 @@ const SLIPS: [Slip; 6] = [
         name: "squared_differences",
         file: "kmeans.rs",
         edits: &[(
-            "norm + centroid_norms[cluster] - 2.0 * dots[cluster]",
+            "norm + column_norms[cluster] - 2.0 * dots[cluster]",
             2,
             "(0..dim).fold(0.0, |sum: f32, d| {
-                let diff = data_chunk[row * dim + d] - centroid_col[d * k + cluster];
+                let diff = block_data[row * dim + d] - columns[d * k + cluster];
                 sum + diff * diff
             })",
         )],
@@ -74,7 +74,7 @@ const SLIPS: [Slip; 6] = [
     Slip {
         name: "equal_later_row",
         file: "kmeans.rs",
-        edits: &[("candidate.0 > last.0", 1, "candidate.0 >= last.0")],
+        edits: &[("entry.0 > last.0", 1, "entry.0 >= last.0")],
     },
 ];
 

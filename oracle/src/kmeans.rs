@@ -69,21 +69,21 @@ pub fn run_kmeans_with_config<V: AsRef<[f32]>>(
 }
 
 pub fn run_kmeans_flat(
-    flattened: &[f32],
-    total_points: usize,
+    flat: &[f32],
+    rows: usize,
     dim: usize,
     k: usize,
     config: KMeansConfig,
     draws: &mut Draws,
 ) -> KMeansResult {
-    let picked = select_training_indices(total_points, k, config.max_points_per_centroid, draws);
+    let picked = select_training_indices(rows, k, config.max_points_per_centroid, draws);
 
     let training_rows = picked.len();
     let gathered;
-    let training: &[f32] = if training_rows == total_points {
-        flattened
+    let training: &[f32] = if training_rows == rows {
+        flat
     } else {
-        gathered = gather_rows(flattened, &picked, dim);
+        gathered = gather_rows(flat, &picked, dim);
         &gathered
     };
 
@@ -107,13 +107,13 @@ pub fn run_kmeans_flat(
             config.decode_block_size,
         );
 
-        let norms = compute_norms(flattened, total_points, dim);
+        let norms = compute_norms(flat, rows, dim);
         let mut columns = Vec::with_capacity(dim * k);
         let mut column_norms = Vec::with_capacity(k);
         rebuild_centroid_views(&centroids, k, dim, &mut columns, &mut column_norms);
 
         let assignments = assign_full_dataset(
-            flattened,
+            flat,
             &norms,
             k,
             dim,
@@ -122,7 +122,7 @@ pub fn run_kmeans_flat(
             config.decode_block_size,
         );
 
-        let objective = compute_objective(flattened, &centroids, &assignments, total_points, dim);
+        let objective = compute_objective(flat, &centroids, &assignments, rows, dim);
 
         let result = KMeansResult {
             centroids: centroids.chunks(dim).map(<[f32]>::to_vec).collect(),
@@ -167,21 +167,21 @@ fn flatten_dataset<V: AsRef<[f32]>>(data: &[V], capacity: usize) -> Vec<f32> {
 }
 
 fn select_training_indices(
-    total_points: usize,
+    rows: usize,
     k: usize,
     max_points_per_centroid: usize,
     draws: &mut Draws,
 ) -> Vec<usize> {
-    let target = k.max(total_points.min(k * max_points_per_centroid));
-    if target == total_points {
-        return (0..total_points).collect();
+    let target = k.max(rows.min(k * max_points_per_centroid));
+    if target == rows {
+        return (0..rows).collect();
     }
 
-    let mut rows: Vec<usize> = (0..total_points).collect();
-    draws.pick(&mut rows, target);
-    rows.truncate(target);
-    rows.sort_unstable();
-    rows
+    let mut picked: Vec<usize> = (0..rows).collect();
+    draws.pick(&mut picked, target);
+    picked.truncate(target);
+    picked.sort_unstable();
+    picked
 }
 
 fn initialize_centroids_random(
@@ -281,22 +281,22 @@ pub(crate) fn rebuild_centroid_views(
     centroids: &[f32],
     k: usize,
     dim: usize,
-    centroid_col: &mut Vec<f32>,
-    centroid_norms: &mut Vec<f32>,
+    columns: &mut Vec<f32>,
+    column_norms: &mut Vec<f32>,
 ) {
-    centroid_col.clear();
-    centroid_col.resize(dim * k, 0.0);
-    centroid_norms.clear();
-    centroid_norms.resize(k, 0.0);
+    columns.clear();
+    columns.resize(dim * k, 0.0);
+    column_norms.clear();
+    column_norms.resize(k, 0.0);
 
     for cluster in 0..k {
         let centroid = &centroids[cluster * dim..][..dim];
         let mut sum = 0.0;
         for (d, value) in centroid.iter().enumerate() {
-            centroid_col[d * k + cluster] = *value;
+            columns[d * k + cluster] = *value;
             sum += value * value;
         }
-        centroid_norms[cluster] = sum;
+        column_norms[cluster] = sum;
     }
 }
 
@@ -322,10 +322,10 @@ impl KMeansBuffer {
     }
 
     fn resize_for_chunk(&mut self, len: usize, k: usize, dim: usize) {
-        self.dot_products.clear();
-        self.dot_products.resize(len * k, 0.0);
-        self.sums.clear();
-        self.sums.resize(k * dim, 0.0);
+        for (cells, size) in [(&mut self.dot_products, len * k), (&mut self.sums, k * dim)] {
+            cells.clear();
+            cells.resize(size, 0.0);
+        }
     }
 }
 
@@ -365,39 +365,39 @@ fn assign_points_for_update(
     assignments: &mut [usize],
     k: usize,
     dim: usize,
-    centroid_col: &[f32],
-    centroid_norms: &[f32],
+    columns: &[f32],
+    column_norms: &[f32],
     decode_block_size: usize,
 ) -> AssignmentSummary {
     let rows = norms.len();
     let blocks = rows.div_ceil(decode_block_size);
+    // Said once here, the length needs no check at every score.
+    let column_norms = &column_norms[..k];
 
     let mut state = (0..blocks).fold(ThreadLocalState::new(k, dim), |mut state, block| {
         let start = block * decode_block_size;
         let end = rows.min(start + decode_block_size);
         let len = end - start;
-        let data_chunk = &data[start * dim..end * dim];
-        let norms_chunk = &norms[start..end];
+        let block_data = &data[start * dim..end * dim];
+        let block_norms = &norms[start..end];
 
         state.buffer.resize_for_chunk(len, k, dim);
 
         let dot_products = &mut state.buffer.dot_products;
-        sgemm(dim, k, data_chunk, centroid_col, dot_products);
+        sgemm(dim, k, block_data, columns, dot_products);
 
-        // Said once here, the length needs no check at every score.
-        let centroid_norms = &centroid_norms[..k];
         let mut labels = Vec::with_capacity(len);
         let mut pool = vec![];
 
         for row in 0..len {
-            let norm = norms_chunk[row];
+            let norm = block_norms[row];
             let dots = &dot_products[row * k..][..k];
             // A row that no score places gets cluster 0 at distance infinity.
             let mut nearest = 0;
             let mut least = f32::INFINITY;
 
             for cluster in 0..k {
-                let mut score = norm + centroid_norms[cluster] - 2.0 * dots[cluster];
+                let mut score = norm + column_norms[cluster] - 2.0 * dots[cluster];
                 if score < 0.0 {
                     score = 0.0;
                 }
@@ -410,7 +410,7 @@ fn assign_points_for_update(
             labels.push(nearest);
             state.counts[nearest] += 1;
 
-            let vector = &data_chunk[row * dim..][..dim];
+            let vector = &block_data[row * dim..][..dim];
             let sums = &mut state.sums[nearest * dim..][..dim];
             for d in 0..dim {
                 sums[d] += vector[d];
@@ -436,17 +436,17 @@ fn assign_points_for_update(
     state.into_summary()
 }
 
-fn insert_candidate(candidates: &mut Vec<(f32, usize)>, candidate: (f32, usize)) {
-    if candidates.len() < RESEED_CANDIDATES {
-        candidates.push(candidate);
-        candidates.sort_unstable_by(farther_first);
+fn insert_candidate(pool: &mut Vec<(f32, usize)>, entry: (f32, usize)) {
+    if pool.len() < RESEED_CANDIDATES {
+        pool.push(entry);
+        pool.sort_unstable_by(farther_first);
         return;
     }
-    if let Some(last) = candidates.last() {
-        if candidate.0 > last.0 {
-            candidates.pop();
-            candidates.push(candidate);
-            candidates.sort_unstable_by(farther_first);
+    if let Some(last) = pool.last() {
+        if entry.0 > last.0 {
+            pool.pop();
+            pool.push(entry);
+            pool.sort_unstable_by(farther_first);
         }
     }
 }
@@ -495,8 +495,8 @@ pub(crate) fn assign_full_dataset(
     norms: &[f32],
     k: usize,
     dim: usize,
-    centroid_col: &[f32],
-    centroid_norms: &[f32],
+    columns: &[f32],
+    column_norms: &[f32],
     decode_block_size: usize,
 ) -> Vec<usize> {
     let rows = norms.len();
@@ -511,8 +511,8 @@ pub(crate) fn assign_full_dataset(
                 end - start,
                 k,
                 dim,
-                centroid_col,
-                centroid_norms,
+                columns,
+                column_norms,
             );
             (start, labels)
         })
@@ -526,27 +526,26 @@ pub(crate) fn assign_full_dataset(
 }
 
 fn compute_chunk_assignments_only(
-    data_chunk: &[f32],
-    norms_chunk: &[f32],
+    block_data: &[f32],
+    block_norms: &[f32],
     len: usize,
     k: usize,
     dim: usize,
-    centroid_col: &[f32],
-    centroid_norms: &[f32],
+    columns: &[f32],
+    column_norms: &[f32],
 ) -> Vec<usize> {
+    let column_norms = &column_norms[..k];
     let mut dot_products = vec![0.0; len * k];
-    sgemm(dim, k, data_chunk, centroid_col, &mut dot_products);
+    sgemm(dim, k, block_data, columns, &mut dot_products);
 
-    // Said once here, the length needs no check at every score.
-    let centroid_norms = &centroid_norms[..k];
     let mut labels = Vec::with_capacity(len);
     for row in 0..len {
-        let norm = norms_chunk[row];
+        let norm = block_norms[row];
         let dots = &dot_products[row * k..][..k];
         let mut nearest = 0;
         let mut least = f32::INFINITY;
         for cluster in 0..k {
-            let mut score = norm + centroid_norms[cluster] - 2.0 * dots[cluster];
+            let mut score = norm + column_norms[cluster] - 2.0 * dots[cluster];
             if score < 0.0 {
                 score = 0.0;
             }
