@@ -534,6 +534,7 @@ fn compute_chunk_assignments_only(
     columns: &[f32],
     column_norms: &[f32],
 ) -> Vec<usize> {
+    // As above, for the loop over clusters.
     let column_norms = &column_norms[..k];
     let mut dot_products = vec![0.0; len * k];
     sgemm(dim, k, block_data, columns, &mut dot_products);
