@@ -6,13 +6,13 @@ use Prim.Native.Nat.{ℕ, _+_, _*_}
 use lib.Dec.{eqb}
 use lib.ListN.{length, replicate}
 use lib.Ieee.{Float}
-use Rattle.sums.specs.Rows.{Row, rowsFrom}
+use Rattle.sums.specs.Rows.{rowsFrom}
 use Rattle.sums.specs.Refusals.{Answer, accepted, refused, within, lowest, unless, padded, blankCell}
 use Rattle.words.specs.Bytes.{floatsFrom, bytes16}
 use Rattle.labels.specs.Label.{nearest}
 use Rattle.closure.specs.Call.{closureCall}
 use Rattle.kmeans.specs.declared.config.KMeansConfig.{KMeansConfig}
-use Rattle.grouping.specs.Groups.{Groups, meanOf}
+use Rattle.grouping.specs.Groups.{Groups}
 use Rattle.grouping.specs.Call.{groupingCall}
 
 -- what is returned: 0, or the refusal's number
