@@ -1,11 +1,10 @@
 //! What stops a command: the text that says so and the exit code that goes with it.
 
 use std::fmt;
-use std::path::Path;
 
 #[derive(Clone, Debug, PartialEq, Eq)]
 pub enum Failure {
-    /// The engine refused, by this number; the text names what it refused.
+    /// The engine refused, by this number; the text names what it refused and why.
     Refused {
         number: u32,
         what: String,
@@ -13,7 +12,7 @@ pub enum Failure {
     Usage(String),
     /// A CSV or a batch file that does not hold what it should.
     Input(String),
-    /// The listing program or a file that could not be run, read or written.
+    /// A program or a file that could not be run, read or written.
     System(String),
 }
 
@@ -27,42 +26,29 @@ impl Failure {
         }
     }
 
+    pub fn refused(number: u32, file: impl fmt::Display, why: impl fmt::Display) -> Self {
+        let what = format!("{file}: refused {number}: {why}");
+        Failure::Refused { number, what }
+    }
+
     /// Something in a file, named by the file.
-    pub fn input(file: &Path, what: impl fmt::Display) -> Self {
-        Failure::Input(format!("{}: {what}", file.display()))
+    pub fn input(file: impl fmt::Display, what: impl fmt::Display) -> Self {
+        Failure::Input(format!("{file}: {what}"))
     }
 
     /// A file or a program that the system would not give.
-    pub fn system(file: &Path, what: impl fmt::Display) -> Self {
-        Failure::System(format!("{}: {what}", file.display()))
+    pub fn system(file: impl fmt::Display, what: impl fmt::Display) -> Self {
+        Failure::System(format!("{file}: {what}"))
     }
 }
 
 impl fmt::Display for Failure {
     fn fmt(&self, out: &mut fmt::Formatter) -> fmt::Result {
-        match self {
-            Failure::Refused { number, what } => {
-                write!(out, "{what}: refused {number}: {}", meaning(*number))
-            }
-            Failure::Usage(text) | Failure::Input(text) | Failure::System(text) => {
-                write!(out, "{text}")
-            }
-        }
-    }
-}
-
-/// The refusals of document 01, in an operator's words.
-fn meaning(number: u32) -> &'static str {
-    match number {
-        1 => "a number is out of its range",
-        2 => "readings and centroids do not have the lengths that go together",
-        3 => "more clusters than rows",
-        4 => "the list of draws is empty or too long",
-        5 => "the distance to some centroid is not a number",
-        6 => "a group above the size limit has fewer rows than the branching",
-        7 => "a group above the size limit is left and the budget of splits is spent",
-        8 => "the file does not have the shape of a batch file",
-        _ => "a number that this program does not know",
+        let (Failure::Refused { what: text, .. }
+        | Failure::Usage(text)
+        | Failure::Input(text)
+        | Failure::System(text)) = self;
+        write!(out, "{text}")
     }
 }
 
@@ -71,20 +57,14 @@ mod tests {
     use super::*;
 
     #[test]
-    fn a_refusal_shows_its_number_and_its_meaning() {
-        let failure = Failure::Refused {
-            number: 7,
-            what: "a.bin".into(),
-        };
-        let text = failure.to_string();
-        assert!(text.starts_with("a.bin: refused 7: "), "{text}");
-        assert!(text.contains("budget"), "{text}");
-        assert_eq!(failure.exit_code(), 1);
-    }
-
-    #[test]
-    fn every_refusal_of_document_01_has_its_own_meaning() {
-        let known: std::collections::HashSet<_> = (0..=8).map(meaning).collect();
-        assert_eq!(known.len(), 9);
+    fn a_failure_names_its_file_and_has_its_own_exit_code() {
+        let refused = Failure::refused(7, "a.bin", "the budget");
+        assert_eq!(refused.to_string(), "a.bin: refused 7: the budget");
+        let input = Failure::input("a.csv", "empty");
+        assert_eq!(input.to_string(), "a.csv: empty");
+        let others = [Failure::Usage(String::new()), Failure::system("a", "b")];
+        let codes = [refused, input].map(|failure| failure.exit_code());
+        assert_eq!(codes, [1, 3]);
+        assert_eq!(others.map(|failure| failure.exit_code()), [2, 4]);
     }
 }

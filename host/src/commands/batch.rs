@@ -1,88 +1,49 @@
-//! `families batch`: readings and settings become a batch file.
+//! `families batch`: readings and settings become a batch file, tied to their serial numbers.
 
-use crate::arguments::{needed, Arguments, Form};
-use crate::batch::{Batch, Settings, MAX_FILE_BYTES};
-use crate::decimal::Words;
+use std::ffi::OsString;
+
+use clap::{value_parser, Args};
+
+use super::Done;
+use crate::answers::batch_file::{self, MAX_FILE_BYTES};
+use crate::answers::digest::Tie;
 use crate::failure::Failure;
-use crate::generator::Generator;
-use crate::table::{Rules, Table};
+use crate::options::grouping::GroupingOptions;
 
-use super::{read_table, Done, SERIAL_COLUMN};
+#[derive(Args, Clone, Debug)]
+pub struct Batch {
+    #[command(flatten)]
+    grouping: GroupingOptions,
 
-pub const FORM: Form = Form {
-    valued: &[
-        "--limit",
-        "--branching",
-        "--weight",
-        "--budget",
-        "--seed",
-        "--draws",
-        "--remark",
-    ],
-    flags: &[SERIAL_COLUMN],
-};
+    /// Put at the front of the file, behind the line with version, seed and digest
+    #[arg(long, value_name = "TEXT", default_value = "", hide_default_value = true, value_parser = value_parser!(OsString))]
+    remark: OsString,
+}
 
-const DRAWS: u64 = 256;
-
-pub fn run(arguments: &Arguments) -> Result<Done, Failure> {
-    let settings = settings(arguments)?;
-    let seed = needed("--seed", arguments.whole("--seed", 0..=u64::MAX)?)?;
-    let draws = arguments.whole("--draws", 1..=4_096)?.unwrap_or(DRAWS);
-    let remark = arguments.value("--remark").unwrap_or_default();
-    let rules = Rules {
-        serial_column: arguments.flag(SERIAL_COLUMN),
-        words: Words::NotTaken,
-    };
-    let table = read_table(arguments.file(), rules)?;
-    if table.readings == 0 {
-        let what = "empty, so that nothing tells how many readings a row has";
-        return Err(Failure::input(arguments.file(), what));
+impl Batch {
+    pub fn run(&self) -> Result<Done, Failure> {
+        let asked = self.grouping.read()?;
+        let (table, draws) = (asked.table, asked.draws);
+        let tie = Tie::new(table.serials.as_deref(), asked.settings, draws);
+        let batch = batch_file::Batch {
+            remark: [tie.line().as_bytes(), self.remark.as_encoded_bytes()].concat(),
+            rows: table.rows as u32,
+            dim: table.readings as u32,
+            values: table.values,
+            draws: draws.numbers(),
+            settings: asked.settings,
+        };
+        let output = batch.to_file().map_err(|length| {
+            let what = format!(
+                "{} rows of {} readings, {} draws and {} bytes of remark make {length} bytes; a batch file has at most {MAX_FILE_BYTES}; `families group` has no such bound",
+                batch.rows, batch.dim, draws.count, batch.remark.len()
+            );
+            Failure::input(asked.source, what)
+        })?;
+        Ok(Done {
+            output,
+            notes: asked.notes,
+            ..Done::default()
+        })
     }
-    let note = format!("{}: {}", arguments.file().display(), told(&table));
-    let batch = Batch {
-        remark: remark.as_encoded_bytes().to_vec(),
-        rows: table.rows as u32,
-        dim: table.readings as u32,
-        values: table.values,
-        draws: Generator::new(seed).draws(draws as usize),
-        settings,
-    };
-    let output = batch.to_file().map_err(|length| {
-        let what = format!(
-            "{} rows of {} readings, {draws} draws and the remark make {length} bytes; a batch file has at most {MAX_FILE_BYTES}",
-            batch.rows, batch.dim
-        );
-        Failure::input(arguments.file(), what)
-    })?;
-    Ok(Done { output, note })
-}
-
-/// The ranges of document 01: a file that is sure to be refused is not written.
-fn settings(arguments: &Arguments) -> Result<Settings, Failure> {
-    let whole = |name: &str, low: u64, high: u64| {
-        needed(name, arguments.whole(name, low..=high)?).map(|number| number as u32)
-    };
-    Ok(Settings {
-        limit: whole("--limit", 0, 4_096)?,
-        branching: whole("--branching", 1, 64)?,
-        weight: needed("--weight", arguments.float("--weight")?)?,
-        budget: whole("--budget", 0, 8_192)?,
-    })
-}
-
-/// How the file was understood, so that nobody loses a row to a header unseen.
-fn told(table: &Table) -> String {
-    let header = if table.header {
-        "a header"
-    } else {
-        "no header"
-    };
-    let serials = match table.serials {
-        Some(_) => "serial numbers",
-        None => "no serial numbers",
-    };
-    format!(
-        "{header}, {serials}, {} rows of {} readings",
-        table.rows, table.readings
-    )
 }

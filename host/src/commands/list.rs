@@ -1,71 +1,108 @@
 //! `families list`: a batch goes through the listing program, and its rows get their serial numbers.
 
+use std::ffi::OsString;
 use std::fmt::Write;
-use std::path::Path;
+use std::path::PathBuf;
 
-use crate::arguments::{Arguments, Form};
-use crate::batch::Batch;
-use crate::csv::Fault;
-use crate::decimal::Words;
+use clap::{value_parser, Args};
+
+use super::Done;
+use crate::answers::batch_file::{misshapen, Batch};
+use crate::answers::digest::{Fit, Tie};
+use crate::answers::listing::{Families, Listing};
+use crate::answers::{listing_program, refusals};
 use crate::failure::Failure;
-use crate::listing::{Families, Listing};
-use crate::listing_program;
-use crate::table::{Rules, Table};
+use crate::options::reading::asked;
+use crate::reading::cells::Fault;
+use crate::reading::decimal::Words;
+use crate::reading::source::Source;
+use crate::reading::table::{Rules, Table};
+use crate::showing::text::summary;
 
-use super::{read_file, read_table, Done, SERIAL_COLUMN};
+#[derive(Args, Clone, Debug)]
+pub struct List {
+    /// The batch file; `-` is standard input
+    #[arg(value_name = "BATCH.bin", value_parser = value_parser!(OsString))]
+    file: OsString,
 
-pub const FORM: Form = Form {
-    valued: &["--serials", "--listing"],
-    flags: &[SERIAL_COLUMN],
-};
+    /// The readings that the batch was made from, with serial numbers; else meters are shown by row number
+    #[arg(long, value_name = "READINGS.csv", value_parser = value_parser!(OsString))]
+    serials: Option<OsString>,
 
-pub fn run(arguments: &Arguments) -> Result<Done, Failure> {
-    let path = arguments.file();
-    let file = read_file(path)?;
-    let serials = serials(arguments)?;
-    let program = listing_program::find(arguments.path("--listing"))?;
-    let families = match listing_program::run(&program, &file)? {
-        Listing::Accepted(families) => families,
-        Listing::Refused(number) => {
-            let what = path.display().to_string();
-            return Err(Failure::Refused { number, what });
-        }
-    };
-    let batch = Batch::from_file(&file)
-        .ok_or_else(|| Failure::system(&program, "accepted a file that has no shape of a batch"))?;
-    let rows = batch.rows as usize;
-    if let Some((path, table)) = &serials {
-        check_same_rows(table, &batch).map_err(|what| Failure::input(path, what))?;
-    }
-    families
-        .check(rows)
-        .map_err(|what| Failure::system(&program, what))?;
-    let table = serials.map(|(_, table)| table);
-    let name = |row: usize| match &table {
-        Some(table) => table.name(row),
-        None => row.to_string(),
-    };
-    Ok(Done::text(text(&families, rows, name)))
+    /// The first column of that file holds serial numbers, be they numbers too
+    #[arg(long, requires = "serials")]
+    serial_column: bool,
+
+    /// The listing program; else the one that FAMILIES_LISTING names, else `listing` beside this program, else target/bin/listing
+    #[arg(long, value_name = "PROGRAM")]
+    listing: Option<PathBuf>,
 }
 
-/// The file of serials, where one is named.
-fn serials(arguments: &Arguments) -> Result<Option<(&Path, Table)>, Failure> {
-    let Some(path) = arguments.path("--serials") else {
-        if arguments.flag(SERIAL_COLUMN) {
-            let what = format!("{SERIAL_COLUMN} is of no use without --serials");
-            return Err(Failure::Usage(what));
-        }
-        return Ok(None);
-    };
-    let rules = Rules {
-        serial_column: arguments.flag(SERIAL_COLUMN),
-        words: Words::NotTaken,
-    };
-    let table = read_table(path, rules)?;
-    if table.serials.is_none() && table.rows > 0 {
-        return Err(Failure::input(path, "no serial numbers in it"));
+impl List {
+    pub fn run(&self) -> Result<Done, Failure> {
+        let source = Source::from(self.file.clone());
+        let file = source.read()?;
+        let batch = Batch::from_file(&file);
+        let serials = self.serials(batch.as_ref())?;
+        let program = listing_program::find(self.listing.as_deref())?;
+        let families = match listing_program::run(&program, &file)? {
+            Listing::Accepted(families) => families,
+            Listing::Refused(number) => {
+                let why = why(number, &file, batch, serials);
+                return Err(Failure::refused(number, source, why));
+            }
+        };
+        let broken = |what: &str| Failure::system(program.display(), what);
+        let batch = batch.ok_or_else(|| broken("accepted a file that has no shape of a batch"))?;
+        let rows = batch.rows as usize;
+        families.check(rows).map_err(|what| broken(&what))?;
+        let name = |row: usize| match &serials {
+            Some(table) => table.name(row),
+            None => row.to_string(),
+        };
+        Ok(Done {
+            output: text(&families, rows, name).into_bytes(),
+            ..Done::default()
+        })
     }
-    Ok(Some((path, table)))
+
+    /// The file of serials, where one is named, held against the batch before anything runs.
+    fn serials(&self, batch: Option<&Batch>) -> Result<Option<Table>, Failure> {
+        let Some(path) = &self.serials else {
+            return Ok(None);
+        };
+        let source = Source::from(path.clone());
+        let rules = Rules {
+            first_column: asked(self.serial_column, false),
+            options: ["--serial-column", "a file with serial numbers"],
+            words: Words::NotTaken,
+        };
+        let table = Table::of(&source, rules)?;
+        if table.serials.is_none() && table.rows > 0 {
+            return Err(Failure::input(source, "no serial numbers in it"));
+        }
+        if let Some(batch) = batch {
+            check_same_rows(&table, batch)
+                .and_then(|()| check_tie(&table, batch))
+                .map_err(|what| Failure::input(source, what))?;
+        }
+        Ok(Some(table))
+    }
+}
+
+/// The serials in their order, by the digest that the batch has; a batch that was made in another way has none.
+fn check_tie(table: &Table, batch: &Batch) -> Result<(), String> {
+    let Some(tie) = Tie::read(&batch.remark) else {
+        return Ok(());
+    };
+    let serials = table.serials.as_deref().unwrap_or_default();
+    match tie.fit(serials, batch.settings, batch.draws.len()) {
+        Fit::Same | Fit::WithoutSerials => Ok(()),
+        Fit::Other => Err(format!(
+            "the batch was made with other serial numbers, another order of them, or other settings (its digest is {:016x}); list it with the very file that it was made from, or make it anew",
+            tie.digest
+        )),
+    }
 }
 
 /// The readings bit by bit, not only their number: a serial must not go to another meter's family.
@@ -92,12 +129,23 @@ fn check_same_rows(table: &Table, batch: &Batch) -> Result<(), String> {
     }
 }
 
+/// A refusal in the batch's own numbers.
+fn why(number: u32, file: &[u8], batch: Option<Batch>, serials: Option<Table>) -> String {
+    let Some(batch) = batch else {
+        return format!("no batch file: {}", misshapen(file));
+    };
+    let rows = Table {
+        rows: batch.rows as usize,
+        readings: batch.dim as usize,
+        values: batch.values,
+        serials: serials.and_then(|table| table.serials),
+        names: None,
+    };
+    refusals::of_grouping(number, &rows, batch.settings, batch.draws.len())
+}
+
 fn text(families: &Families, rows: usize, name: impl Fn(usize) -> String) -> String {
-    let mut text = format!(
-        "{} families, {rows} meters, {} splits\n",
-        families.groups.len(),
-        families.splits
-    );
+    let mut text = summary(families.groups.len(), rows, families.splits);
     for (number, group) in families.groups.iter().enumerate() {
         let names: Vec<String> = group.iter().map(|&row| name(row)).collect();
         let size = group.len();
@@ -110,11 +158,14 @@ fn text(families: &Families, rows: usize, name: impl Fn(usize) -> String) -> Str
 #[cfg(test)]
 mod tests {
     use super::*;
-    use crate::batch::Settings;
+    use crate::answers::draws::Draws;
+    use crate::answers::settings::Settings;
+    use crate::reading::column::Asked;
 
     fn table(text: &str) -> Table {
         let rules = Rules {
-            serial_column: false,
+            first_column: Asked::Nothing,
+            options: ["", ""],
             words: Words::NotTaken,
         };
         Table::read(text.as_bytes(), rules).unwrap()
@@ -166,5 +217,23 @@ mod tests {
             text(&families, 3, |row| format!("M{row}")),
             "2 families, 3 meters, 1 splits\nfamily 0, 2 meters: M2 M3\nfamily 1, 1 meters: M0\n"
         );
+    }
+
+    #[test]
+    fn a_batch_knows_its_serials() {
+        let table = table("serial,low\nA,1\nB,1\n");
+        let mut batch = batch(2, 1, &[1.0, 1.0]);
+        assert_eq!(check_tie(&table, &batch), Ok(()));
+        let tied = |serials: &[&str]| {
+            let serials: Vec<String> = serials.iter().map(|s| s.to_string()).collect();
+            let draws = Draws { seed: 5, count: 1 };
+            Tie::new(Some(&serials), batch.settings, draws).line()
+        };
+        let (same, swapped) = (tied(&["A", "B"]), tied(&["B", "A"]));
+        batch.remark = same.into_bytes();
+        assert_eq!(check_tie(&table, &batch), Ok(()));
+        batch.remark = swapped.into_bytes();
+        let told = check_tie(&table, &batch).unwrap_err();
+        assert!(told.contains("other serial numbers"), "{told}");
     }
 }

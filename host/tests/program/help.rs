@@ -1,45 +1,78 @@
-//! Help and usage.
+//! Help, version and usage.
 
 use crate::common::Folder;
+
+const COMMANDS: [&str; 6] = ["group", "page", "batch", "list", "label", "closure"];
 
 #[test]
 fn help_of_the_program_names_every_command() {
     let folder = Folder::new("help_program");
-    let run = folder.run(&["--help"]);
-    for command in ["batch", "list", "label", "closure"] {
-        assert!(run.text().contains(&format!("families {command} ")));
+    for word in ["--help", "-h", "help"] {
+        let run = folder.run(&[word]);
+        for command in COMMANDS {
+            assert!(run.text().contains(&format!("\n  {command} ")), "{command}");
+        }
+        assert!(run.errors.is_empty());
     }
-    assert!(run.errors.is_empty());
 }
 
 #[test]
-fn help_of_a_command_wins_over_everything_else() {
+fn help_of_a_command_shows_its_usage() {
     let folder = Folder::new("help_commands");
-    for command in ["batch", "list", "label", "closure"] {
-        for words in [
-            vec![command, "--help"],
-            vec![command, "--nothing", "--help"],
-        ] {
-            let run = folder.run(&words);
-            let start = format!("families {command} ");
-            assert!(run.text().starts_with(&start), "{run:?}");
+    for command in COMMANDS {
+        for word in ["--help", "-h"] {
+            let run = folder.run(&[command, word]);
+            let usage = format!("Usage: families {command} ");
+            assert!(run.text().contains(&usage), "{run:?}");
             assert!(run.errors.is_empty());
         }
     }
 }
 
 #[test]
+fn help_states_the_defaults() {
+    let folder = Folder::new("help_defaults");
+    let run = folder.run(&["group", "-h"]);
+    for words in [
+        ("--limit <N>", "[default: 40]"),
+        ("--branching <N>", "[default: 4]"),
+        ("--weight <W>", "[default: 0.25]"),
+        ("--budget <N>", "[default: 8192]"),
+        ("--tray <N>", "[default: 40]"),
+        ("--format <FORMAT>", "[default: text]"),
+    ] {
+        let has = |line: &str| line.contains(words.0) && line.contains(words.1);
+        assert!(run.text().lines().any(has), "{words:?} in {run:?}");
+    }
+}
+
+#[test]
+fn the_version_is_printed() {
+    let run = Folder::new("help_version").run(&["--version"]);
+    assert_eq!(
+        run.text(),
+        format!("families {}\n", env!("CARGO_PKG_VERSION"))
+    );
+}
+
+#[test]
 fn bad_usage_ends_by_2() {
     let folder = Folder::new("help_usage");
-    folder.run(&[]).fails(2, &["--help"]);
+    folder.run(&[]).fails(2, &["families"]);
     folder
-        .run(&["group"])
-        .fails(2, &["group", "families --help"]);
-    folder.run(&["batch"]).fails(2, &["families batch --help"]);
-    folder.run(&["list"]).fails(2, &["families list --help"]);
+        .run(&["grop"])
+        .fails(2, &["grop", "'group'", "--help"]);
+    folder
+        .run(&["group", "--limits", "4", "a.csv"])
+        .fails(2, &["--limits", "'--limit'"]);
+    for command in COMMANDS {
+        folder.run(&[command]).fails(2, &["--help"]);
+        folder.run(&[command, "a", "b"]).fails(2, &["'b'"]);
+    }
     let twice = ["list", "a.bin", "--listing", "x", "--listing", "x"];
-    folder.run(&twice).fails(2, &["--listing", "twice"]);
-    let flag = ["list", "a.bin", "--serial-column"];
+    folder.run(&twice).fails(2, &["--listing"]);
     folder.write("a.bin", "");
-    folder.run(&flag).fails(2, &["--serials"]);
+    folder
+        .run(&["list", "a.bin", "--serial-column"])
+        .fails(2, &["--serials"]);
 }

@@ -40,6 +40,11 @@ fn listed(test: &str, prints: &str) -> Run {
     list(&folder(test, prints), &["--serials", "r.csv"])
 }
 
+/// Whether the stand-in was run.
+fn ran(folder: &Folder) -> bool {
+    folder.path().join("read").exists()
+}
+
 #[test]
 fn p1_is_printed_with_its_serials() {
     let folder = folder("list_p1", P1);
@@ -62,8 +67,10 @@ fn without_serials_rows_are_printed_by_number() {
 
 #[test]
 fn a_refusal_ends_by_1_with_its_meaning() {
-    listed("list_refused_7", "refused 7\n").fails(1, &["b.bin", "refused 7: ", "budget"]);
-    listed("list_refused_8", "refused 8\n").fails(1, &["refused 8: ", "shape"]);
+    listed("list_refused_7", "refused 7\n").fails(1, &["b.bin", "refused 7: ", "budget of 4"]);
+    let shapeless = folder("list_refused_8", "refused 8\n");
+    shapeless.write("b.bin", "no batch");
+    list(&shapeless, &[]).fails(1, &["refused 8: ", "8 bytes", "36"]);
     let folder = folder("list_refused_6", "refused 6\n");
     let words = ["list", "b.bin", "--listing", STAND_IN];
     let mut command = folder.command(&words);
@@ -139,9 +146,53 @@ fn other_readings_than_the_batch_has_end_by_3() {
         folder.write("s.csv", csv);
         list(&folder, &["--serials", "s.csv"]).fails(3, &["s.csv: ", words]);
     }
+    assert!(
+        !ran(&folder),
+        "the program ran before its rows were compared"
+    );
+}
+
+#[test]
+fn other_serials_than_the_batch_was_made_with_end_by_3() {
+    let folder = folder("list_tied", P1);
+    for csv in [
+        "serial,error\nB 2,0\nA1,1\nC3,10\nD4,11\n",
+        "serial,error\nA1,0\nB 2,1\nC3,10\nD5,11\n",
+    ] {
+        folder.write("s.csv", csv);
+        list(&folder, &["--serials", "s.csv"]).fails(3, &["s.csv: ", "other serial numbers"]);
+    }
+    let mut changed = fs::read(folder.path().join("b.bin")).unwrap();
+    let budget = changed.len() - 4;
+    changed[budget] += 1;
+    folder.write("b.bin", changed);
+    list(&folder, &["--serials", "r.csv"]).fails(3, &["r.csv: ", "other settings"]);
+    assert!(
+        !ran(&folder),
+        "the program ran before its serials were compared"
+    );
+}
+
+#[test]
+fn a_batch_without_serials_takes_those_of_its_readings() {
+    let folder = folder("list_untied", P1);
+    folder.write("r.csv", "0\n1\n10\n11\n");
+    folder.write("b.bin", folder.run(&["batch", "r.csv"]).bytes);
     folder.write("s.csv", "7,0\n8,1\n9,10\n10,11\n");
+    list(&folder, &["--serials", "s.csv"])
+        .fails(3, &["s.csv: line 1 column 1: ", "--serial-column"]);
     let flagged = list(&folder, &["--serials", "s.csv", "--serial-column"]);
     assert!(flagged.text().contains("family 0, 2 meters: 9 10\n"));
+}
+
+#[test]
+fn a_batch_comes_from_standard_input_too() {
+    let folder = folder("list_input", P1);
+    let words = ["list", "-", "--listing", STAND_IN, "--serials", "r.csv"];
+    let mut command = folder.command(&words);
+    let batch = fs::File::open(folder.path().join("b.bin")).unwrap();
+    let run = Run::of(with_stand_in(&folder, command.stdin(batch)));
+    assert!(run.text().contains("C3 D4"), "{run:?}");
 }
 
 #[test]

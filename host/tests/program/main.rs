@@ -2,6 +2,8 @@
 
 mod batch;
 mod common;
+mod group;
 mod help;
 mod list;
 mod nearest;
+mod page;

@@ -35,7 +35,7 @@ fn p8_and_p9_are_listed() {
 #[test]
 fn every_row_is_answered_under_its_serial() {
     let rows = "serial,low,high\nA1,0,0\n\"B 2\",9,9\n";
-    let centroids = "10,10\n0,1\n";
+    let centroids = "10.0,10\n0,1\n";
     let labels = run("label_serials", rows, centroids, &["label", "--dim", "2"]);
     assert_eq!(labels.text(), "A1: 1\n\"B 2\": 0\n");
     let words = ["closure", "--replicas", "1", "--epsilon", "0"];
@@ -56,17 +56,82 @@ fn the_sample_falls_into_its_four_kinds() {
             .filter(|line| line.ends_with(kind))
             .count()
     };
-    assert_eq!([": 0", ": 1", ": 2", ": 3"].map(of_kind), [14, 11, 9, 6]);
+    let kinds = [
+        ": 0 sound",
+        ": 1 \"low gain\"",
+        ": 2 \"phase shift\"",
+        ": 3 \"weak start\"",
+    ];
+    assert_eq!(kinds.map(of_kind), [14, 11, 9, 6]);
+}
+
+#[test]
+fn boundary_meters_are_offered_centroids_by_name() {
+    let folder = Folder::new("closure_sample");
+    let samples = concat!(env!("CARGO_MANIFEST_DIR"), "/../samples/");
+    let rows = format!("{samples}boundary.csv");
+    let centroids = format!("{samples}centroids.csv");
+    let run = folder.run(&[
+        "closure",
+        &rows,
+        "--centroids",
+        &centroids,
+        "--replicas",
+        "2",
+        "--epsilon",
+        "0.5",
+    ]);
+    assert_eq!(
+        run.text(),
+        "MF-2410201: 0 sound 2 \"phase shift\"\nMF-2410202: 1 \"low gain\"\nMF-2410203: 3 \"weak start\" 1 \"low gain\"\n"
+    );
+}
+
+#[test]
+fn names_of_centroids_are_told_from_their_readings() {
+    let numbered = "kind,low,high\n7,0,1\n8,9,9\n";
+    let label = |test: &str, words: &[&str]| run(test, "A,0,0\n", numbered, words);
+    let asks = [
+        "c.csv: line 2 column 1: ",
+        "--centroid-names",
+        "--no-centroid-names",
+    ];
+    label("label_unclear", &["label"]).fails(3, &asks);
+    let named = label("label_named", &["label", "--centroid-names"]);
+    assert_eq!(named.text(), "A: 0 7\n");
+    label("label_unnamed", &["label", "--no-centroid-names"]).fails(1, &["refused 2: "]);
+    let both = ["label", "--centroid-names", "--no-centroid-names"];
+    label("label_both", &both).fails(2, &["--no-centroid-names"]);
+}
+
+#[test]
+fn rows_come_from_standard_input_too() {
+    let folder = Folder::new("label_input");
+    folder.write("c.csv", "1\n2\n");
+    folder.write("rows.csv", "1.75\n");
+    let mut command = folder.command(&["label", "-", "--centroids", "c.csv"]);
+    let rows = std::fs::File::open(folder.path().join("rows.csv")).unwrap();
+    assert_eq!(Run::of(command.stdin(rows)).text(), "0: 1\n");
+}
+
+#[test]
+fn rows_that_cancel_against_their_centroids_are_warned_of() {
+    let label = |test: &str, words: &[&str]| run(test, "1000.2\n", "1000\n1000.5\n", words);
+    let warned = label("label_warned", &["label"]);
+    assert!(warned.errors.contains("warning: "), "{warned:?}");
+    label("label_failed", &["label", "--fail-on-warning"]).fails(3, &["subtract"]);
 }
 
 #[test]
 fn refusals_end_by_1_and_print_nothing() {
     let label = |test: &str, centroids: &str, words: &[&str]| run(test, "1\n", centroids, words);
-    label("label_range", "1\n", &["label", "--dim", "65"]).fails(1, &["refused 1: "]);
-    label("label_none", "", &["label"]).fails(1, &["refused 1: "]);
-    label("label_many", &"1\n".repeat(65), &["label"]).fails(1, &["refused 1: "]);
-    label("label_length", "1,2\n", &["label"]).fails(1, &["refused 2: "]);
-    label("label_dim", "1\n", &["label", "--dim", "2"]).fails(1, &["refused 2: "]);
+    let wide = ["label", "--dim", "65"];
+    label("label_range", "1\n", &wide).fails(1, &["refused 1: --dim is 65; it goes from 1 to 64"]);
+    label("label_none", "", &["label"]).fails(1, &["refused 1: ", "centroids is 0", "1 to 64"]);
+    label("label_many", &"1\n".repeat(65), &["label"]).fails(1, &["refused 1: ", "65"]);
+    let lengths = ["refused 2: ", "row has 1 readings", "each centroid 2"];
+    label("label_length", "1.5,2\n", &["label"]).fails(1, &lengths);
+    label("label_dim", "1\n", &["label", "--dim", "2"]).fails(1, &["refused 2: ", "2 are asked"]);
 
     let words = [
         "closure",
@@ -78,8 +143,8 @@ fn refusals_end_by_1_and_print_nothing() {
     ];
     let rows = "serial,low\nA1,1\nA2,nan\n";
     let refused = run("closure_nan", rows, "1\n2\n", &words);
-    refused.fails(1, &["A2", "refused 5: "]);
-    run("closure_length", "1\n", "1,2\n", &words).fails(1, &["refused 2: "]);
+    refused.fails(1, &["A2", "refused 5: ", "centroid 0", "reading 1 is NaN"]);
+    run("closure_length", "1\n", "1.5,2\n", &words).fails(1, &["refused 2: "]);
 }
 
 #[test]
@@ -104,7 +169,7 @@ fn bad_usage_ends_by_2() {
         .fails(2, &["--centroids"]);
     let words = ["closure", "--epsilon", "0", "--replicas", "65536"];
     run("closure_usage", "1\n", "1\n", &words).fails(2, &["--replicas"]);
-    run("closure_missing", "1\n", "1\n", &words[..3]).fails(2, &["--replicas", "missing"]);
+    run("closure_missing", "1\n", "1\n", &words[..3]).fails(2, &["--replicas"]);
     let words = ["label", "rows.csv", "--centroids", "none.csv"];
     folder.run(&words).fails(4, &["none.csv"]);
 }

@@ -6,7 +6,7 @@ use std::process::{Command, Output, Stdio};
 use std::thread;
 use std::time::Duration;
 
-use families::exported::list;
+use engine::exported::list;
 use oracle::batch::{listing, MAX_FILE_BYTES};
 use oracle::cases::{BatchCase, Case};
 

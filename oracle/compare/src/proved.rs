@@ -1,6 +1,6 @@
 //! The oracle's cases, handed to the proved library.
 
-use families::exported;
+use engine::exported;
 use oracle::cases::{BytesOutcome, Case, ClosureBytesCase};
 use oracle::cases::{LabelBytesCase, LabelCase, LabelOutcome};
 use oracle::cases::{STALE_BYTE, STALE_CELL, STALE_FLOAT};

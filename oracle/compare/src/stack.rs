@@ -4,7 +4,7 @@
 use std::path::Path;
 use std::process::{Command, Stdio};
 
-use families::stack::{on_thread, BEGUN, STATED};
+use engine::stack::{on_thread, BEGUN, STATED};
 use oracle::cases::{BatchCase, Case};
 
 use crate::files;

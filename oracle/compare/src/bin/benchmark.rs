@@ -3,7 +3,7 @@
 //! `benchmark [ROUNDS] [WORD..]`: all, or what has these words in its name.
 
 use compare::timing::{as_long, rows_around, side_by_side, values, wanted};
-use families::exported::{self, KMeansNumbers, KMeansWork};
+use engine::exported::{self, KMeansNumbers, KMeansWork};
 use oracle::calls;
 use oracle::random::Random;
 

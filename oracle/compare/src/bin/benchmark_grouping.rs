@@ -3,7 +3,7 @@
 //! `benchmark_grouping [ROUNDS] [WORD..]`: all, or what has these words in its name.
 
 use compare::timing::{as_long, rows_around, values, wanted};
-use families::exported::{self, GroupNumbers, GroupTold, GroupWork};
+use engine::exported::{self, GroupNumbers, GroupTold, GroupWork};
 use oracle::calls::{self, GroupingAccepted, GroupingLent, GroupingNumbers};
 use oracle::random::Random;
 

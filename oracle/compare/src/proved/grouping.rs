@@ -1,6 +1,6 @@
 //! Grouping.
 
-use families::exported::{self, GroupNumbers, GroupWork};
+use engine::exported::{self, GroupNumbers, GroupWork};
 use oracle::calls::GroupingAccepted;
 use oracle::cases::{Case, GroupingCase, GroupingOutcome, STALE_CELL, STALE_FLOAT};
 use oracle::random::Random;

@@ -1,6 +1,6 @@
 //! K-means.
 
-use families::exported::{self, KMeansNumbers, KMeansWork};
+use engine::exported::{self, KMeansNumbers, KMeansWork};
 use oracle::calls::KMeansAccepted;
 use oracle::cases::{Case, KMeansCase, KMeansOutcome, STALE_CELL, STALE_FLOAT};
 use oracle::random::Random;

@@ -1,0 +1,130 @@
+//! Every wrapper on a thread with far less stack than its call takes, and what docs/BUFFERS.md states.
+
+use std::thread;
+
+use engine::exported::{self, GroupNumbers, GroupTold, GroupWork, KMeansNumbers, KMeansWork};
+use engine::stack;
+
+/// Less than any call takes. The system may hand a new thread the stack of one that ended, of up to four times the size: those of the
+/// threads that the wrappers make are larger.
+const SMALL: usize = 24 << 10;
+
+const VALUES: [f32; 4] = [0.0, 1.0, 10.0, 11.0];
+
+fn on_small_thread<T: Send + 'static>(call: fn() -> T) -> T {
+    let builder = thread::Builder::new().stack_size(SMALL);
+    builder.spawn(call).unwrap().join().unwrap()
+}
+
+fn bytes(values: &[f32]) -> Vec<u8> {
+    let each = values.iter();
+    each.flat_map(|value| value.to_le_bytes()).collect()
+}
+
+#[test]
+fn label() {
+    let told = on_small_thread(|| {
+        let mut result = [0; 2];
+        let centroids = bytes(&[5.0, 2.0, 7.0]);
+        let number = exported::label(1, 3, &bytes(&[2.5]), &centroids, &mut result);
+        (number, result)
+    });
+    assert_eq!(told, (0, [1, 0]));
+}
+
+#[test]
+fn closure() {
+    let told = on_small_thread(|| {
+        let mut result = [0; 8];
+        let (row, centroids) = (bytes(&[0.0]), bytes(&[2.0, 1.0, -1.0]));
+        let number = exported::closure(1, 3, 3, 0.0, &row, &centroids, &mut result);
+        (number, result)
+    });
+    assert_eq!(told, (0, [1, 0, 2, 0, 255, 255, 2, 0]));
+}
+
+#[test]
+fn label_rows() {
+    let told = on_small_thread(|| {
+        let mut labels = [9; 4];
+        let number = exported::label_rows(4, 1, 2, &VALUES, &[9.0, 2.0], &mut labels);
+        (number, labels)
+    });
+    assert_eq!(told, (0, [1, 1, 0, 0]));
+}
+
+#[test]
+fn kmeans() {
+    let told = on_small_thread(|| {
+        let numbers = KMeansNumbers {
+            rows: 4,
+            dim: 1,
+            k: 2,
+            iterations: 25,
+            restarts: 2,
+            points_per_centroid: 256,
+            block: 32_768,
+        };
+        let (mut labels, mut centroids) = ([9; 4], [9.0; 2]);
+        let work = &mut KMeansWork::new(4, 1, 9.0);
+        let told = exported::kmeans(numbers, &[0], &VALUES, &mut labels, &mut centroids, work);
+        assert!(work.is_zero(), "the work slice ends all zero");
+        (told.number, told.objective, told.restart, labels, centroids)
+    });
+    assert_eq!(told, (0, 1.0, 0, [0, 0, 1, 1], [0.5, 10.5]));
+}
+
+#[test]
+fn group() {
+    let (told, order, ends, means) = on_small_thread(|| {
+        let numbers = GroupNumbers {
+            rows: 4,
+            dim: 1,
+            limit: 2,
+            branching: 2,
+            weight: 0.0,
+            budget: 4,
+        };
+        let (mut order, mut ends, mut means) = ([9; 4], [9; 4], [9.0; 4]);
+        let work = &mut GroupWork::new(4, 1, 9.0);
+        let lent = (&mut order, &mut ends, &mut means);
+        let told = exported::group(numbers, &[0], &VALUES, lent.0, lent.1, lent.2, work);
+        assert!(work.is_zero(), "work slices end all zero");
+        (told, order, ends, means)
+    });
+    let expected = GroupTold {
+        number: 0,
+        groups: 2,
+        splits: 1,
+    };
+    assert_eq!(told, expected);
+    assert_eq!((order, ends), ([2, 3, 0, 1], [2, 4, 65_535, 65_535]));
+    assert_eq!(means, [10.5, 0.5, 0.0, 0.0]);
+}
+
+#[test]
+fn list() {
+    let text = on_small_thread(|| {
+        let mut file = bytes(&VALUES);
+        for number in [0u32, 0, 16, 4, 1, 1, 2, 2, 0, 4] {
+            file.extend_from_slice(&number.to_le_bytes());
+        }
+        let mut text = vec![0; 60];
+        let length = exported::list(&file, &mut text);
+        text.truncate(length as usize);
+        String::from_utf8(text).unwrap()
+    });
+    assert_eq!(text, "accepted groups 2 splits 1\n2: 2 3\n2: 0 1\n");
+}
+
+#[test]
+fn what_is_stated_stands_in_the_page_and_is_at_most_1_mib() {
+    let page = include_str!("../../../docs/BUFFERS.md");
+    for (name, stack) in stack::STATED {
+        assert!(5 * SMALL < stack && stack <= 1 << 20, "{name}: {stack}");
+        let stated = format!("| {} KiB |", stack >> 10);
+        let mut rows = page.lines();
+        let row = rows.find(|line| line.starts_with(&format!("| `{name}` |")));
+        assert!(row.is_some_and(|row| row.ends_with(&stated)), "{name}");
+    }
+}

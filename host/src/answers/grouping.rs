@@ -1,0 +1,100 @@
+//! Grouping through the exported function: 4,096 meters of 64 readings, with no file in between.
+
+use engine::exported::{group, GroupNumbers, GroupWork};
+
+use super::draws::Draws;
+use super::report::{Family, Grouping};
+use super::settings::Settings;
+use crate::reading::table::Table;
+
+/// The families of a table's rows, or the refusal's number.
+pub fn families(table: &Table, settings: Settings, draws: Draws) -> Result<Grouping, u32> {
+    let (rows, dim) = (table.rows, table.readings);
+    let numbers = GroupNumbers {
+        rows: rows as u32,
+        dim: dim as u32,
+        limit: settings.limit,
+        branching: settings.branching,
+        weight: settings.weight,
+        budget: settings.budget,
+    };
+    let mut order = vec![0; rows];
+    let mut ends = vec![0; rows];
+    let mut means = vec![0.0; rows * dim];
+    let told = group(
+        numbers,
+        &draws.numbers(),
+        &table.values,
+        &mut order,
+        &mut ends,
+        &mut means,
+        &mut GroupWork::new(rows, dim, 0.0),
+    );
+    if told.number != 0 {
+        return Err(told.number);
+    }
+    let groups = told.groups as usize;
+    Ok(Grouping {
+        families: taken_apart(&order, &ends[..groups], &means, dim),
+        splits: told.splits,
+    })
+}
+
+/// Each family's rows stand between two ends, and its mean at its number.
+fn taken_apart(order: &[u16], ends: &[u16], means: &[f32], dim: usize) -> Vec<Family> {
+    let mut start = 0;
+    let mut families = Vec::new();
+    for (end, mean) in ends.iter().zip(means.chunks_exact(dim)) {
+        let end = usize::from(*end);
+        families.push(Family {
+            rows: order[start..end]
+                .iter()
+                .map(|row| usize::from(*row))
+                .collect(),
+            mean: mean.to_vec(),
+        });
+        start = end;
+    }
+    families
+}
+
+#[cfg(test)]
+mod tests {
+    use super::*;
+
+    fn p1(limit: u32, budget: u32) -> Result<Grouping, u32> {
+        let table = Table {
+            rows: 4,
+            readings: 1,
+            values: vec![0.0, 1.0, 10.0, 11.0],
+            serials: None,
+            names: None,
+        };
+        let settings = Settings {
+            limit,
+            branching: 2,
+            weight: 0.0,
+            budget,
+        };
+        families(&table, settings, Draws { seed: 1, count: 3 })
+    }
+
+    #[test]
+    fn families_have_their_rows_and_means() {
+        let grouping = p1(2, 4).unwrap();
+        assert_eq!(grouping.splits, 1);
+        let mut families = grouping.families;
+        families.sort_by_key(|family| family.rows[0]);
+        let family = |rows: [usize; 2], mean: f32| Family {
+            rows: rows.to_vec(),
+            mean: vec![mean],
+        };
+        assert_eq!(families, [family([0, 1], 0.5), family([2, 3], 10.5)]);
+    }
+
+    #[test]
+    fn refusals_come_by_number() {
+        assert_eq!(p1(2, 0), Err(7));
+        assert_eq!(p1(4_097, 0), Err(1));
+    }
+}

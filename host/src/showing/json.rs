@@ -1,0 +1,165 @@
+//! Families as JSON: everything, the settings and the engine's version too.
+
+use serde::{Serialize, Serializer};
+
+use crate::answers::report::Report;
+
+#[derive(Serialize)]
+struct Whole<'a> {
+    program: Program,
+    source: &'a str,
+    meters: usize,
+    readings: usize,
+    reading_names: Option<&'a [String]>,
+    settings: Settings,
+    splits: u32,
+    warnings: &'a [String],
+    families: Vec<Family<'a>>,
+}
+
+#[derive(Serialize)]
+struct Program {
+    name: &'static str,
+    version: &'static str,
+    engine: &'static str,
+}
+
+#[derive(Serialize)]
+struct Settings {
+    limit: u32,
+    branching: u32,
+    weight: Float,
+    budget: u32,
+    /// As text, since many readers of JSON keep 53 bits of a number.
+    seed: String,
+    draws: usize,
+    tray: usize,
+}
+
+#[derive(Serialize)]
+struct Family<'a> {
+    family: usize,
+    size: usize,
+    mean: Vec<Float>,
+    meters: Vec<Meter<'a>>,
+}
+
+#[derive(Serialize)]
+struct Meter<'a> {
+    serial: Option<&'a str>,
+    row: usize,
+    tray: usize,
+    place: usize,
+}
+
+/// The shortest number that gives the float back; JSON has none for what is not finite, which goes as text.
+struct Float(f32);
+
+impl Serialize for Float {
+    fn serialize<S: Serializer>(&self, out: S) -> Result<S::Ok, S::Error> {
+        match self.0.is_finite() {
+            true => out.serialize_f32(self.0),
+            false => out.serialize_str(&self.0.to_string()),
+        }
+    }
+}
+
+pub fn families(report: &Report) -> String {
+    let families = report.grouping.families.iter().enumerate();
+    let families = families.map(|(number, family)| Family {
+        family: number,
+        size: family.rows.len(),
+        mean: family.mean.iter().copied().map(Float).collect(),
+        meters: family.rows.iter().map(|row| meter(report, *row)).collect(),
+    });
+    let whole = Whole {
+        program: Program {
+            name: env!("CARGO_PKG_NAME"),
+            version: env!("CARGO_PKG_VERSION"),
+            engine: engine::VERSION,
+        },
+        source: &report.source,
+        meters: report.meters(),
+        readings: report.table.readings,
+        reading_names: report.table.names.as_deref(),
+        settings: settings(report),
+        splits: report.grouping.splits,
+        warnings: &report.warnings,
+        families: families.collect(),
+    };
+    let mut text = serde_json::to_string_pretty(&whole).expect("names and numbers are JSON");
+    text.push('\n');
+    text
+}
+
+fn settings(report: &Report) -> Settings {
+    let settings = report.settings;
+    Settings {
+        limit: settings.limit,
+        branching: settings.branching,
+        weight: Float(settings.weight),
+        budget: settings.budget,
+        seed: report.draws.seed.to_string(),
+        draws: report.draws.count,
+        tray: report.tray,
+    }
+}
+
+fn meter(report: &Report, row: usize) -> Meter<'_> {
+    let place = report.place(row);
+    Meter {
+        serial: report.table.serial(row),
+        row,
+        tray: place.tray,
+        place: place.place,
+    }
+}
+
+#[cfg(test)]
+mod tests {
+    use super::*;
+    use crate::answers::report::tests::report;
+    use serde_json::{json, Value};
+
+    fn value(report: &Report) -> Value {
+        serde_json::from_str(&families(report)).unwrap()
+    }
+
+    #[test]
+    fn everything_is_there() {
+        let value = value(&report());
+        assert_eq!(value["program"]["name"], "families");
+        assert_eq!(value["program"]["engine"], engine::VERSION);
+        assert_eq!(value["reading_names"], json!(["low", "high"]));
+        assert_eq!(
+            value["settings"],
+            json!({"limit": 2, "branching": 2, "weight": 0.25, "budget": 4,
+                   "seed": "18446744073709551615", "draws": 3, "tray": 2})
+        );
+        assert_eq!((&value["meters"], &value["splits"]), (&json!(3), &json!(1)));
+        assert_eq!(value["warnings"], json!(["look out"]));
+        assert_eq!(
+            value["families"][0]["meters"],
+            json!([{"serial": "C", "row": 2, "tray": 2, "place": 1},
+                   {"serial": "A 1", "row": 0, "tray": 1, "place": 1}])
+        );
+    }
+
+    #[test]
+    fn floats_are_short_and_what_is_not_finite_is_text() {
+        let mut report = report();
+        report.grouping.families[1].mean = vec![f32::INFINITY, 3.0];
+        let text = families(&report);
+        assert!(text.contains("0.1\n"), "{text}");
+        assert_eq!(value(&report)["families"][1]["mean"], json!(["inf", 3.0]));
+    }
+
+    #[test]
+    fn a_table_without_names_has_nulls() {
+        let mut report = report();
+        (report.table.names, report.table.serials) = (None, None);
+        let value = value(&report);
+        assert_eq!(value["reading_names"], Value::Null);
+        assert_eq!(value["families"][0]["meters"][0]["serial"], Value::Null);
+    }
+}

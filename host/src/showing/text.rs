@@ -1,0 +1,46 @@
+//! Families as text, a few lines to each.
+
+use std::fmt::Write;
+
+use crate::answers::report::Report;
+
+/// The first line is that of `families list`; each meter stands with its tray and place.
+pub fn families(report: &Report) -> String {
+    let grouping = &report.grouping;
+    let mut text = summary(grouping.families.len(), report.meters(), grouping.splits);
+    for (number, family) in grouping.families.iter().enumerate() {
+        let mean: Vec<String> = family.mean.iter().map(f32::to_string).collect();
+        let meters: Vec<String> = family.rows.iter().map(|row| meter(report, *row)).collect();
+        // Writing to a string does not fail.
+        let _ = writeln!(text, "family {number}, {} meters", family.rows.len());
+        let _ = writeln!(text, "  mean {}", mean.join(" "));
+        let _ = writeln!(text, "  {}", meters.join(" "));
+    }
+    text
+}
+
+/// How many there are of everything.
+pub fn summary(families: usize, meters: usize, splits: u32) -> String {
+    format!("{families} families, {meters} meters, {splits} splits\n")
+}
+
+fn meter(report: &Report, row: usize) -> String {
+    let place = report.place(row);
+    format!("{}@{}/{}", report.table.name(row), place.tray, place.place)
+}
+
+#[cfg(test)]
+mod tests {
+    use super::*;
+    use crate::answers::report::tests::report;
+
+    #[test]
+    fn a_family_has_its_size_its_mean_and_its_meters() {
+        assert_eq!(
+            families(&report()),
+            "2 families, 3 meters, 1 splits\n\
+             family 0, 2 meters\n  mean 0.5 0.1\n  C@2/1 \"A 1\"@1/1\n\
+             family 1, 1 meters\n  mean -0.25 3\n  B@1/2\n"
+        );
+    }
+}
