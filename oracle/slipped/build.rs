@@ -11,7 +11,7 @@ struct Slip {
     edits: &'static [(&'static str, usize, &'static str)],
 }
 
-const SLIPS: [Slip; 6] = [
+const SLIPS: [Slip; 7] = [
     // Scores are squared differences instead of the norm formula.
     Slip {
         name: "squared_differences",
@@ -75,6 +75,17 @@ const SLIPS: [Slip; 6] = [
         name: "equal_later_row",
         file: "kmeans.rs",
         edits: &[("entry.0 > last.0", 1, "entry.0 >= last.0")],
+    },
+    // Every pass through the draw list gives the same numbers: document 01's own rule, before
+    // request (i) of document 02.
+    Slip {
+        name: "same_each_pass",
+        file: "draws.rs",
+        edits: &[(
+            "wrapping_add(pass as u32)",
+            1,
+            "wrapping_add(0 * pass as u32)",
+        )],
     },
 ];
 

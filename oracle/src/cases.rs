@@ -136,20 +136,34 @@ fn usual_dim(random: &mut Random) -> u32 {
     size(random, 1, 8, 64, 16)
 }
 
-/// A draw list: short ones go round, long ones don't, and the numbers are small or any.
+/// A draw list: short ones go round, long ones don't, and the numbers are small, any, or so large
+/// that they wrap after a few passes.
 fn draw_list(random: &mut Random) -> Vec<u32> {
     let length = match random.below(16) {
-        0..=4 => 1,
-        5..=11 => random.small(1, 12),
+        0..=6 => random.between(1, 3),
+        7..=11 => random.small(1, 12),
         12..=14 => random.small(1, 200),
         _ => 4_096,
     };
-    let any = random.once_in(2);
-    let draw = |random: &mut Random| match any {
-        true => random.next_u32(),
-        false => random.below(8),
+    let kind = random.below(4);
+    let draw = |random: &mut Random| match kind {
+        0 => u32::MAX - random.below(8),
+        1 => random.below(8),
+        _ => random.next_u32(),
     };
     (0..length).map(|_| draw(random)).collect()
+}
+
+/// What a call that made at least so many draws shows of passes through its list.
+fn pass_kinds(draws: &[u32], made: u64) -> Vec<&'static str> {
+    if made <= 2 * draws.len() as u64 {
+        return vec![];
+    }
+    let wraps = draws.iter().any(|draw| draw.checked_add(2).is_none());
+    match wraps {
+        true => vec!["more than two passes", "a draw that wraps"],
+        false => vec!["more than two passes"],
+    }
 }
 
 /// A draw list that is refused by 4.

@@ -16,11 +16,12 @@ impl<'a> Draws<'a> {
         self.made
     }
 
-    /// The next draw; the only place that knows what follows the last of the list.
+    /// The next draw; the only place that knows what follows the last of the list: on each pass
+    /// through it every number is one more than on the pass before, wrapping at 32 bits.
     pub fn drawn(&mut self) -> u32 {
-        let draw = self.list[self.made % self.list.len()];
+        let (pass, place) = (self.made / self.list.len(), self.made % self.list.len());
         self.made += 1;
-        draw
+        self.list[place].wrapping_add(pass as u32)
     }
 
     /// Brings the picked to the first `count` places; the last exchange uses a draw even where it
@@ -30,5 +31,18 @@ impl<'a> Draws<'a> {
             let j = i + self.drawn() as usize % (places.len() - i);
             places.swap(i, j);
         }
+    }
+}
+
+#[cfg(test)]
+mod tests {
+    use super::*;
+
+    #[test]
+    fn a_pass_later_each_draw_is_one_more() {
+        let mut draws = Draws::new(&[7, u32::MAX, 0]);
+        let drawn: Vec<u32> = (0..8).map(|_| draws.drawn()).collect();
+        assert_eq!(drawn, [7, u32::MAX, 0, 8, 0, 1, 9, 1]);
+        assert_eq!(draws.made(), 8);
     }
 }

@@ -628,7 +628,8 @@ mod tests {
         let mut draws = Draws::new(&list);
         let mut centroids = [0.0; 3];
         update_centroids(&mut centroids, 3, 1, &data, &summary, &mut draws);
-        assert_eq!(centroids, [7.0, 6.0, 6.0]);
+        // The second draw is 5, since it is a pass later.
+        assert_eq!(centroids, [7.0, 6.0, 7.0]);
         assert_eq!(draws.made(), 2);
     }
 
@@ -638,7 +639,8 @@ mod tests {
         let mut draws = Draws::new(&list);
         assert_eq!(select_training_indices(3, 2, 1, &mut draws), [0, 2]);
         assert_eq!(draws.made(), 2);
-        assert_eq!(select_training_indices(3, 1, 0, &mut draws), [2]);
+        // The third draw is 3, the first number of the list a pass later.
+        assert_eq!(select_training_indices(3, 1, 0, &mut draws), [0]);
         assert_eq!(select_training_indices(3, 2, 2, &mut draws), [0, 1, 2]);
         assert_eq!(draws.made(), 3);
     }

@@ -73,7 +73,33 @@ fn letting_an_equal_later_row_into_a_full_pool() {
 }
 
 #[test]
+fn the_same_draws_on_every_pass() {
+    assert_told_apart!(same_each_pass, KMeansCase);
+    assert_told_apart!(same_each_pass, GroupingCase);
+}
+
+/// Request (i) of document 02: what document 01's rule refused by 7 is parted on a later pass.
+#[test]
+fn a_stubborn_batch_under_both_rules() {
+    use oracle::cases::{Case, GroupingCase};
+    let case = GroupingCase::stubborn();
+    let outcome = case.run();
+    assert_eq!(case.draws, [0]);
+    assert_eq!(GroupingCase::number(&outcome), 0);
+    assert_eq!(outcome.order, [4, 5, 0, 1, 2, 3]);
+    assert_eq!(outcome.ends[..3], [2, 4, 6]);
+
+    use slipped::same_each_pass::cases as slipped;
+    let wrong = slipped::GroupingCase::stubborn();
+    let outcome = slipped::Case::run(&wrong);
+    assert_eq!(
+        <slipped::GroupingCase as slipped::Case>::number(&outcome),
+        7
+    );
+}
+
+#[test]
 fn a_slip_changes_only_its_own_place() {
-    assert_same!(LabelCase: widening_first, inverse_mean, balance_toward_mean, first_come, equal_later_row);
+    assert_same!(LabelCase: widening_first, inverse_mean, balance_toward_mean, first_come, equal_later_row, same_each_pass);
     assert_same!(KMeansCase: inverse_mean, balance_toward_mean, first_come);
 }

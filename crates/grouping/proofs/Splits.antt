@@ -2,15 +2,14 @@
 use mathlib.Core.Path.{_≡_, sym, ap}
 use mathlib.Core.Bool.{true, false}
 use mathlib.Core.List.{List, []}
-use Prim.Native.Nat.{ℕ, _*_, _≤_, _<_}
-use native.Mathlib.Nat.{mod-eq-of-lt}
+use Prim.Native.Nat.{ℕ, _+_, _*_, _≤_, _<_}
 use native.Mathlib.Omega.{arith}
 use lib.Ieee.{Float, lt}
 use lib.ListN.{length, getD, length-map}
 use Rattle.sums.specs.Rows.{Row, rowsAt}
 use Rattle.sums.specs.Sums.{zero32}
 use Rattle.sums.specs.Cells.{Below}
-use Rattle.sums.specs.Draws.{cursorAt}
+use Rattle.sums.proofs.Passes.{cursor-own}
 use Rattle.sums.specs.declared.draws.Cursor.{Cursor}
 use Rattle.kmeans.specs.declared.config.KMeansConfig.{KMeansConfig}
 use Rattle.kmeans.specs.declared.restart.Kept.{Kept}
@@ -40,10 +39,6 @@ module _ (rows centroids : List Row) (share : ℕ) (weight : Float) (ps : List (
 
 -- ---- the labels that k-means gives
 
--- a cursor stands for its own place
-cursor-own : (draws : List ℕ) (cursor : Cursor) → cursor .at < length draws → cursor ≡ cursorAt draws (cursor .at)
-cursor-own draws cursor h = let f : ℕ → Cursor = λ n. record { at = n } in ap f (sym (mod-eq-of-lt h))
-
 -- each row of the group has a label, one of k, and so the rows gathered are the group's
 pub record Labelled (rows k : ℕ) (group labels : List ℕ) : Type 0 where
   pub each : length group ≡ length labels
@@ -60,13 +55,14 @@ labelled-by rows k group labels inside e b = record {
 }
 
 pub labelled : {draws : List ℕ} {k : ℕ} (dim : ℕ) {cursor : Cursor} {kept : Kept} {labels : List ℕ} {centroids : List Row} (rows : ℕ) (table : List Row) (group : List ℕ)
-    → cursor .at < length draws → 0 < k → k ≤ length group → Below rows group → Ran draws forGrouping k dim (rowsAt table group) cursor kept labels centroids
+    → cursor .at < length draws → cursor .pass < 4294967296 → 0 < k → k ≤ length group → Below rows group → Ran draws forGrouping k dim (rowsAt table group) cursor kept labels centroids
     → Labelled rows k group labels
-labelled {draws} {k} dim {cursor} {kept} {labels} rows table group inside some enough below ran =
+labelled {draws} {k} dim {cursor} {kept} {labels} rows table group inside bits some enough below ran =
     let l = length-map group (λ i. getD table i []) in
-    let e = ap (λ (r : Result). r .labels) (ran .steps (cursor .at) (cursor-own draws cursor inside) .0) in
+    let n = cursor .at + cursor .pass * length draws in
+    let e = ap (λ (r : Result). r .labels) (ran .steps n (cursor-own draws cursor inside bits) .0) in
     let found : (length labels ≡ length group) × Below k labels
-    = rw e (rw l at (labels-below draws (cursor .at) forGrouping k dim (rowsAt table group) some (rw l enough))) in
+    = rw e (rw l at (labels-below draws n forGrouping k dim (rowsAt table group) some (rw l enough))) in
     labelled-by rows k group labels below (sym (found .0)) (found .1)
 
 -- ---- the split

@@ -1,8 +1,8 @@
 -- The turns of `group_rows`: how a grouping under way stands in the row order, the stack and the group ends. Assumes nothing.
 use mathlib.Core.Path.{_≡_, refl, sym, ap, subst, _∙_}
 use mathlib.Core.List.{List, [], _∷_, _++_, flatten, append-assoc, append-nil}
-use Prim.Native.Nat.{ℕ, zero, suc, _+_, _-_, _*_, _%_, _≤_, _<_, min}
-use native.Mathlib.Nat.{zero-mod}
+use Prim.Native.Nat.{ℕ, zero, suc, _+_, _-_, _*_, _≤_, _<_, min}
+use Rattle.sums.proofs.Passes.{start-inside}
 use native.Mathlib.Omega.{arith}
 use mir.Syntax.{w32}
 use mir.Val.{Fits}
@@ -384,20 +384,19 @@ module _ (draws : List ℕ) (dim : ℕ) (values : Row) (k : ℕ) (weight : Float
   whole-is = ap (λ (l : List ℕ). groupFrom (partsOf ruled) (madeBy ruled) limit k budget 0 (waits l [])) (up ∙ ap upTo (sym (rows-length dim (length order) values)))
 
   pub clustering-start : (waiting ends : List ℕ) (top : ℕ) (cursor : Cursor) → 0 < length waiting → length ends ≡ length order → ends ≡ replicate (length ends) blankCell
-      → 0 < length draws → top ≡ min (length order) 1 → cursor .at ≡ 0
+      → 0 < length draws → top ≡ min (length order) 1 → cursor ≡ cursorAt draws 0
       → Clustering ruled limit budget (length order) order (set waiting 0 (length order)) ends top 0 0 0 cursor
   unfolding flatten endsFrom
   clustering-start waiting ends top cursor room l blank d t c =
-      let z : cursor .at ≡ 0 % length draws = c ∙ sym (zero-mod (length draws)) in
       let b : budget - 0 ≡ budget = omega arith in
       let f = first order waiting room in
       record {
         room = omega (arith, t);
         spent = omega arith;
-        inside = omega arith;
+        inside = start-inside draws cursor c d;
         below = subst (λ (m : List ℕ). Below (length order) m) (sym up) (below-up (length order));
         made = 0;
-        drawn = ap {B = Cursor} (λ x. record { at = x }) z;
+        drawn = c;
         listed = [];
         w = waits order [];
         state = record {

@@ -1,9 +1,8 @@
 -- A k-means call: what its tests tell of its numbers, and what each answer gives. Assumes nothing.
-use mathlib.Core.Path.{_≡_, refl, sym, ap, _∙_}
+use mathlib.Core.Path.{_≡_, refl, sym, _∙_}
 use mathlib.Core.Bool.{true}
 use mathlib.Core.List.{List, [], _∷_}
 use Prim.Native.Nat.{ℕ, zero, suc, _*_, _≤_, _<_}
-use native.Mathlib.Nat.{zero-mod}
 use borrow.Author.Tests.{leb-true}
 use lib.Ieee.{Float}
 use lib.ListN.{length, replicate}
@@ -77,10 +76,6 @@ fitting rows dim k config draws values labels centroids training e =
 
 -- ---- what each answer gives
 
--- a new cursor has drawn nothing
-start : (draws : List ℕ) (cursor : Cursor) → cursor .at ≡ 0 → cursor ≡ cursorAt draws 0
-start draws cursor e = let f : ℕ → Cursor = λ n. record { at = n } in ap f (e ∙ sym (zero-mod (length draws)))
-
 module _ (rows dim k : ℕ) (config : KMeansConfig) (draws : List ℕ) (values : List Float) (labelCells centroidCells trainingCells : ℕ) where
   pub gives-refused : (number : ℕ) (labels : List ℕ) (centroids : List Float) → number ≡ kmeansRefusal rows dim k config (length draws) (length values) (labelCells ∷ centroidCells ∷ trainingCells ∷ []) → (number ≡ 0 → ⊥)
       → labels ≡ replicate labelCells blankCell → centroids ≡ replicate centroidCells zero32
@@ -94,13 +89,13 @@ module _ (rows dim k : ℕ) (config : KMeansConfig) (draws : List ℕ) (values :
   }
 
   pub gives-run : (cursor : Cursor) (r : Kept) (labels : List ℕ) (centroids : List Float) → kmeansRefusal rows dim k config (length draws) (length values) (labelCells ∷ centroidCells ∷ trainingCells ∷ []) ≡ 0
-      → cursor .at ≡ 0 → length labels ≡ labelCells → length centroids ≡ centroidCells
+      → cursor ≡ cursorAt draws 0 → length labels ≡ labelCells → length centroids ≡ centroidCells
       → Ran draws config k dim (rowsFrom dim labelCells values) cursor r labels (rowsFrom dim k centroids)
       → Gives (kmeansCall rows dim k config draws values (labelCells ∷ centroidCells ∷ trainingCells ∷ [])) labelCells centroidCells (Accepted (r .objective) (r .restart)) labels centroids
   unfolding kmeansCall unless onAccepted cellsOf
   gives-run cursor r labels centroids e s l c g =
       let f = fitting rows dim k config (length draws) (length values) labelCells centroidCells trainingCells e in
-      let x : heldOf labels (rowsFrom dim k centroids) r ≡ kmeans draws 0 config k dim (rowsFrom dim rows values) .result = rw (f .labels-are) at (g .steps 0 (start draws cursor s) .0) in
+      let x : heldOf labels (rowsFrom dim k centroids) r ≡ kmeans draws 0 config k dim (rowsFrom dim rows values) .result = rw (f .labels-are) at (g .steps 0 s .0) in
       record {
         result = rw (e, ← x);
         labelled = rw (e, ← x) (sym (padded-all blankCell labelCells labels l));

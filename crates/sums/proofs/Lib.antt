@@ -5,6 +5,7 @@ pub mod Fronts
 pub mod Sums
 pub mod Orders
 pub mod Pairs
+pub mod Passes
 pub mod Floats
 pub mod Shifts
 pub mod Inserts

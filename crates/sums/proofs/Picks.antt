@@ -1,9 +1,9 @@
--- The ring of draws, and the turns of `pick`. Assumes nothing.
-use Prim.Native.Nat.{ℕ, zero, suc, _+_, _-_, _*_, _/_, _%_, _≤_, _<_}
-use mathlib.Core.Path.{_≡_, refl, sym, ap, _∙_}
+-- The turns of `pick`. Assumes nothing.
+use Prim.Native.Nat.{ℕ, zero, suc, _+_, _-_, _%_, _≤_, _<_}
+use mathlib.Core.Path.{_≡_, refl, _∙_}
 use mathlib.Core.Bool.{Bool, true, false}
-use mathlib.Core.List.{List, [], _∷_, _++_}
-use native.Mathlib.Nat.{add-zero, add-suc, mod-lt, add-mul-mod-self-right, mod-eq-of-lt, mod-self, div-add-mod'}
+use mathlib.Core.List.{List}
+use native.Mathlib.Nat.{add-zero, add-suc, mod-lt}
 use native.Mathlib.Numerals.{add-one}
 use native.Mathlib.Omega.{arith}
 use borrow.Author.Tests.{eqb-true, eqb-false}
@@ -13,20 +13,10 @@ use lib.Seq.{length-take-le, getD-set-same, getD-set-other}
 use Rattle.sums.specs.declared.draws.Cursor.{Cursor}
 use Rattle.sums.specs.declared.draws.Draw.{Draw}
 use Rattle.sums.proofs.Tables.{getD-tab, up-length}
+use Rattle.sums.proofs.Belows.{below-take}
 use Rattle.sums.specs.Tables.{upTo}
 use Rattle.sums.specs.Cells.{Below}
 use Rattle.sums.specs.Draws.{drawn, exchange, exchangesFrom, pick, cursorAt, Drawn}
-
-again : (n l : ℕ) → suc n % l ≡ suc (n % l) % l
-again n l =
-    let e : suc n ≡ suc (n % l) + n / l * l = omega (arith, div-add-mod' n l) in
-    ap (λ (x : ℕ). x % l) e ∙ add-mul-mod-self-right (suc (n % l)) (n / l) l
-
-pub ring-on : (n l : ℕ) → suc (n % l) < l → suc n % l ≡ suc (n % l)
-ring-on n l h = again n l ∙ mod-eq-of-lt h
-
-pub ring-round : (n l : ℕ) → suc (n % l) ≡ l → suc n % l ≡ 0
-ring-round n l h = again n l ∙ (ap (λ (x : ℕ). x % l) h ∙ mod-self l)
 
 pub below-up : (m : ℕ) → Below m (upTo m)
 below-up m i h = let l : i < m = rw (up-length m) at h in rw (getD-tab (λ n. n) m i 0 l) l
@@ -98,3 +88,17 @@ module _ (draws : List ℕ) (m : ℕ) where
   pub pick-length : (n c : ℕ) → c ≤ m → length (pick draws n c m) ≡ c
   unfolding pick
   pick-length n c h = length-take-le c (exchangesFrom draws m n 0 c (upTo m)) (omega (arith, exchanges-length n 0 c (upTo m), up-length m))
+
+  -- ---- and each below the number that they are picked from
+  exchanges-below : (n i c : ℕ) (places : List ℕ) → length places ≡ m → i + c ≤ m → Below m places → Below m (exchangesFrom draws m n i c places)
+  unfolding exchange exchangesFrom
+  exchanges-below n i zero places l h b = b
+  exchanges-below n i (suc c) places l h b =
+      let j = i + drawn draws n % (m - i) in
+      let k : j < m = omega (arith, mod-lt (drawn draws n) {m = m - i} (omega (arith, h))) in
+      exchanges-below (suc n) (suc i) c (exchange i j places) (simp length-set l) (omega (arith, h))
+      (below-set m (set places i (getD places j 0)) j (getD places i 0) (below-set m places i (getD places j 0) b (b j (omega (arith, k, l)))) (b i (omega (arith, h, l))))
+
+  pub pick-below : (n c : ℕ) → c ≤ m → Below m (pick draws n c m)
+  unfolding pick
+  pick-below n c h = below-take m c (exchangesFrom draws m n 0 c (upTo m)) (exchanges-below n 0 c (upTo m) (up-length m) (omega (arith, h)) (below-up m))

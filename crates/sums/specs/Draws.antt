@@ -1,18 +1,19 @@
 -- 01, 'Draws'. The state of the draws is how many a call has made so far: a call starts at none, and training, restarts and splits go on from there.
 use mathlib.Core.Path.{_≡_}
 use mathlib.Core.List.{List}
-use Prim.Native.Nat.{ℕ, zero, suc, _+_, _-_, _%_, _<_}
+use Prim.Native.Nat.{ℕ, zero, suc, _+_, _-_, _/_, _%_, _<_}
 use lib.ListN.{length, getD, set, take}
 use Rattle.sums.specs.Tables.{upTo}
 use Rattle.sums.specs.declared.draws.Cursor.{Cursor}
 
--- Draw number n, from 0: the list is gone through again and again. No other line knows this rule but `cursorAt`.
+-- Draw number n of a call, from 0: the list is gone through again and again, and on pass p, from 0, the draw is the listed number plus p, wrapping
+-- at 32 bits (02 (i)). No other line knows this rule but `cursorAt`.
 unfoldable pub drawn : List ℕ → ℕ → ℕ
-drawn draws n = getD draws (n % length draws) 0
+drawn draws n = (getD draws (n % length draws) 0 + n / length draws) % 4294967296
 
--- the cursor of the code after n draws
+-- the cursor of the code after n draws: the place, and the pass, which wraps too
 abbrev pub cursorAt : List ℕ → ℕ → Cursor
-cursorAt draws n = record { at = n % length draws }
+cursorAt draws n = record { at = n % length draws; pass = n / length draws % 4294967296 }
 
 -- what stands at i and what stands at j change places
 unfoldable pub exchange : ℕ → ℕ → List ℕ → List ℕ

@@ -20,6 +20,11 @@ use Rattle.grouping.specs.Balance.{allowed, seek, closestFrom, closestOf, balan
 use Rattle.grouping.specs.Groups.{balanceIf, waits, pushed, after, front, back, groupFrom, meanOf}
 use Rattle.grouping.specs.Call as call
 
+-- all of them but picking
+unfoldable pub unpicked : Unit {0}
+unfolding add sub mul div lt le isNan ofInt toUnsigned flatMap flatten rowsFrom sumFrom normOf dotOf apartOf spreadOf addRow place orderFrom keep sameAll lowestFrom unless onAccepted scoreFrom score better nearestFrom nearest nearests farther blockPool blockPools pool labelRefusal labelCall target trainingIf countsFrom sumsFrom timesInverse updateFrom drawsAfter update objectiveFrom firstFit resultOf keepBetter fitOf restartsFrom restartsOf kmeans rangesFit lengthsFit kmeansRefusal kmeansCall nearer reachOf listed closure anyNan unordered closureRefusal answered closureCall having flat allowed seek closestFrom closestOf balanced moves waits pushed after front back groupFrom meanOf call.rangesFit call.lengthsFit call.groupingRefusal call.groupingCall
+unpicked = tt
+
 unfoldable pub opened : Unit {0}
-unfolding add sub mul div lt le isNan ofInt toUnsigned flatMap flatten rowsFrom sumFrom normOf dotOf apartOf spreadOf addRow place orderFrom keep drawn exchange exchangesFrom pick sameAll lowestFrom unless onAccepted scoreFrom score better nearestFrom nearest nearests farther blockPool blockPools pool labelRefusal labelCall target trainingIf countsFrom sumsFrom timesInverse updateFrom drawsAfter update objectiveFrom firstFit resultOf keepBetter fitOf restartsFrom restartsOf kmeans rangesFit lengthsFit kmeansRefusal kmeansCall nearer reachOf listed closure anyNan unordered closureRefusal answered closureCall having flat allowed seek closestFrom closestOf balanced moves waits pushed after front back groupFrom meanOf call.rangesFit call.lengthsFit call.groupingRefusal call.groupingCall
+unfolding unpicked drawn exchange exchangesFrom pick
 opened = tt

@@ -2,8 +2,12 @@
 use mathlib.Core.Path.{_≡_, refl, ap}
 use mathlib.Core.List.{List, [], _∷_, _++_}
 use Prim.Native.Nat.{ℕ, zero, suc, _+_, _%_}
-use native.Mathlib.Nat.{mod-one, zero-add, suc-add, add-suc}
-use lib.ListN.{getD, replicate}
+use native.Mathlib.Nat.{mod-lt, zero-add, suc-add, add-suc}
+use native.Mathlib.Omega.{arith}
+use lib.ListN.{replicate, getD-replicate}
+use Rattle.sums.specs.Rows.{Row}
+use Rattle.sums.specs.Sums.{one32}
+use Rattle.sums.specs.Draws.{drawn}
 use Rattle.sums.specs.Tables.{upTo}
 use Rattle.labels.specs.declared.nearest.Nearest.{Nearest}
 use Rattle.labels.specs.Label.{nearests, labelsOf, distancesOf}
@@ -38,7 +42,7 @@ pub record Refills : Type 0 where
 -- an iteration leaves the centroids as they are
 one : (n : ℕ) → update (0 ∷ []) 10 1 32768 (alike 10) n found ≡ at (alike 10) (suc n)
 unfolding opened
-one n = ap (λ (d : ℕ). at (alike 9 ++ (getD (alike 10) (getD (0 ∷ []) d 0 % 10) [] ∷ [])) (suc n)) (mod-one n)
+one n = ap (λ (row : Row). at (alike 9 ++ (row ∷ [])) (suc n)) (getD-replicate 10 (drawn (0 ∷ []) n % 10) (one32 ∷ []) [] (mod-lt _ {m = 10} (omega arith)))
 
 one-5 : (n : ℕ) → update (0 ∷ []) 10 1 5 (alike 10) n found ≡ at (alike 10) n
 unfolding opened

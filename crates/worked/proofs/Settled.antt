@@ -1,15 +1,18 @@
 -- Runs that settle: the iterations left after that repeat, so that only the first few have to be computed.
-use mathlib.Core.Path.{_≡_, refl}
+use mathlib.Core.Path.{_≡_, refl, ap, _∙_}
 use mathlib.Core.Bool.{false}
 use mathlib.Core.List.{List, [], _∷_}
-use Prim.Native.Nat.{ℕ, zero, suc, _+_}
-use native.Mathlib.Nat.{mod-one}
+use Prim.Native.Nat.{ℕ, zero, suc, _+_, suc-le-suc}
 use native.Mathlib.Numerals.{unary-clauses}
+use native.Mathlib.Omega.{arith}
 use lib.IntN.{pos, negsuc}
-use lib.ListN.{replicate}
+use lib.ListN.{length, replicate, getD-replicate}
 use lib.Ieee.{Float, fin, lt}
 use Rattle.sums.specs.Tables.{upTo}
-use Rattle.sums.specs.Rows.{Row}
+use Rattle.sums.specs.Rows.{Row, rowsAt}
+use Rattle.sums.specs.Cells.{Below}
+use Rattle.sums.specs.Draws.{pick}
+use Rattle.sums.proofs.Picks.{pick-length, pick-below}
 use Rattle.sums.specs.Sums.{zero32, one32, count32}
 use Rattle.sums.specs.Refusals.{refused}
 use Rattle.labels.specs.Label.{nearests}
@@ -18,7 +21,7 @@ use Rattle.kmeans.proofs.Turns.{fixed}
 use Rattle.grouping.specs.Balance.{share}
 use Rattle.grouping.specs.Groups.{Rule, balanceIf, partsOf, madeBy, splitFrom}
 use Rattle.worked.specs.Table.{half}
-use Rattle.worked.proofs.Opened.{opened}
+use Rattle.worked.proofs.Opened.{unpicked, opened}
 
 module _ (draws : List ℕ) (k dim block : ℕ) (training : List Row) where
   -- the first few iterations give a fit that another one leaves as it is
@@ -42,9 +45,9 @@ ruled rows weight = record { draws = 0 ∷ []; dim = 1; rows = rows; branching =
 abbrev pub four : List Row
 four = (zero32 ∷ []) ∷ (one32 ∷ []) ∷ (count32 10 ∷ []) ∷ (count32 11 ∷ []) ∷ []
 
--- the first two rows are picked, and two iterations reach the means of both pairs
+-- the draws are 0 and, a pass later, 1: the first row and the third are picked, and two iterations reach the means of both pairs
 abbrev picked : Fit
-picked = at ((zero32 ∷ []) ∷ (one32 ∷ []) ∷ []) 2
+picked = at ((zero32 ∷ []) ∷ (count32 10 ∷ []) ∷ []) 2
 
 abbrev means : Fit
 means = at ((half ∷ []) ∷ (fin false 21 (negsuc 0) ∷ []) ∷ []) 2
@@ -62,7 +65,19 @@ P1-parts = rw P1-settles
 abbrev five : List Row
 five = replicate 5 (fin false 3 (pos 0) ∷ [])
 
--- all rows are alike, so the first iteration changes nothing, whatever was drawn before
+-- rows that are alike are, whichever are taken
+rows-alike : (m : ℕ) (row : Row) (places : List ℕ) → Below m places → rowsAt (replicate m row) places ≡ replicate (length places) row
+rows-alike m row [] b = refl
+rows-alike m row (p ∷ places) b =
+    rw (getD-replicate m p row [] (b 0 (omega arith))) (ap (λ (l : List Row). row ∷ l) (rows-alike m row places (λ i h. b (suc i) (suc-le-suc h))))
+
+-- so that both centroids are the row, whatever is drawn
+P2-picked : (n : ℕ) → rowsAt five (pick (0 ∷ []) n 2 5) ≡ replicate 2 (fin false 3 (pos 0) ∷ [])
+P2-picked n =
+    let row : Row = fin false 3 (pos 0) ∷ [] in
+    rows-alike 5 row (pick (0 ∷ []) n 2 5) (pick-below (0 ∷ []) 5 n 2 (omega arith)) ∙ ap (λ (m : ℕ). replicate m row) (pick-length (0 ∷ []) 5 n 2 (omega arith))
+
+-- and the first iteration changes nothing, whatever was drawn before
 abbrev equal : ℕ → Fit
 equal n = at (replicate 2 (fin false 3 (pos 0) ∷ [])) n
 
@@ -70,11 +85,14 @@ P2-settles : (n : ℕ) → iterate (0 ∷ []) 2 1 32768 five 100 (equal n) ≡ e
 unfolding opened iterate
 P2-settles n = settled (0 ∷ []) 2 1 32768 five 100 0 (equal n) (equal n) refl refl
 
+P2-fit : (n : ℕ) → iterate (0 ∷ []) 2 1 32768 five 100 (at (rowsAt five (pick (0 ∷ []) n 2 5)) (n + 2)) ≡ equal (n + 2)
+P2-fit n = ap (λ (centroids : List Row). iterate (0 ∷ []) 2 1 32768 five 100 (at centroids (n + 2))) (P2-picked n) ∙ P2-settles (n + 2)
+
 -- and k-means leaves them together
 P2-together : (weight : Float) (n : ℕ) → partsOf (ruled five weight) n (upTo 5)
     ≡ balanceIf five (replicate 2 (fin false 3 (pos 0) ∷ [])) (share 5 2) weight (upTo 5 ∷ [] ∷ [])
-unfolding opened partsOf
-P2-together weight n = simp mod-one (rw P2-settles)
+unfolding unpicked partsOf
+P2-together weight n = rw (P2-fit (n + 0))
 
 pub P2-parts : partsOf (ruled five half) 0 (upTo 5) ≡ (2 ∷ 3 ∷ 4 ∷ []) ∷ (0 ∷ 1 ∷ []) ∷ []
 unfolding opened balanceIf

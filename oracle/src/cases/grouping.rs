@@ -2,8 +2,8 @@
 
 use super::values::{Flavour, Source};
 use super::{
-    all_float_bits, draw_list, length_of, outside, size, usual_dim, wrong_draw_list, wrong_length,
-    Case, Spoils, STALE_CELL, STALE_FLOAT,
+    all_float_bits, draw_list, length_of, outside, pass_kinds, size, usual_dim, wrong_draw_list,
+    wrong_length, Case, Spoils, STALE_CELL, STALE_FLOAT,
 };
 use crate::calls::{
     grouping, GroupingAccepted, GroupingLent, GroupingNumbers, DIM, K, ROWS, SIZE_LIMIT,
@@ -164,6 +164,21 @@ impl GroupingCase {
         }
     }
 
+    /// Readings so far from zero that some picks part nothing: with the same picks in every split
+    /// the budget is spent, and on later passes through the list others part the group.
+    pub fn stubborn() -> Self {
+        let values = [1001.5, 1001.25, 1001.75, 1002.5, 1006.25, 1007.75];
+        Self::simple(&values, 2, 2, 0.0, 20)
+    }
+
+    /// What a call that did so many splits shows of passes through its list: each picks its centroids.
+    pub fn pass_kinds(&self, splits: u32) -> Vec<&'static str> {
+        pass_kinds(
+            &self.draws,
+            u64::from(splits) * u64::from(self.numbers.branching),
+        )
+    }
+
     /// Rows of one value, and draws of zero.
     pub fn simple(
         values: &[f32],
@@ -224,6 +239,7 @@ impl Case for GroupingCase {
             // The largest budget, used up by rows that never part.
             Self::simple(&[3.0; 2], 1, 2, 0.0, SPLIT_BUDGET.high),
         ];
+        cases.push(Self::stubborn());
         // The second split goes on with the third draw.
         let mut later = Self::simple(&[0.0, 10.0, 11.0], 1, 2, 0.0, 2);
         later.draws = vec![0, 0, 1, 0];

@@ -2,8 +2,8 @@
 
 use super::values::{power_of_two, Source};
 use super::{
-    all_float_bits, double_bits, draw_list, length_of, outside, size, usual_dim, wrong_draw_list,
-    wrong_length, Case, Spoils, STALE_CELL, STALE_FLOAT,
+    all_float_bits, double_bits, draw_list, length_of, outside, pass_kinds, size, usual_dim,
+    wrong_draw_list, wrong_length, Case, Spoils, STALE_CELL, STALE_FLOAT,
 };
 use crate::calls::{
     kmeans, KMeansAccepted, KMeansLent, KMeansNumbers, BLOCK, DIM, ITERATIONS, K, KMEANS_ROWS,
@@ -125,6 +125,12 @@ impl KMeansCase {
             2 => self.centroid_cells = wrong_length(random, self.centroid_cells),
             _ => self.work_fits = false,
         }
+    }
+
+    /// What an accepted call shows of passes through its list: each restart picks its centroids.
+    pub fn pass_kinds(&self) -> Vec<&'static str> {
+        let picks = u64::from(self.numbers.restarts) * u64::from(self.numbers.k);
+        pass_kinds(&self.draws, picks)
     }
 
     /// Two restarts of which one has a NaN objective and the other an infinite one, the NaN

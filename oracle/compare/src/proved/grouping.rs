@@ -60,6 +60,7 @@ fn accepted_kinds(case: &GroupingCase, outcome: &GroupingOutcome, splits: u32) -
     if balancing_shows(case, outcome) {
         kinds.push("groups changed by balancing".into());
     }
+    kinds.extend(case.pass_kinds(splits).into_iter().map(String::from));
     kinds
 }
 
@@ -89,6 +90,8 @@ impl Compared for GroupingCase {
         ("gathered too long", 1),
         ("training too short", 1),
         ("training too long", 1),
+        ("more than two passes", 100),
+        ("a draw that wraps", 50),
     ];
 
     fn proved(&self) -> Proved<GroupingOutcome> {

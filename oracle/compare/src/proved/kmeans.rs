@@ -34,6 +34,8 @@ impl Compared for KMeansCase {
         ("refused 4", 100),
         ("training too short", 1),
         ("training too long", 1),
+        ("more than two passes", 100),
+        ("a draw that wraps", 50),
     ];
 
     fn proved(&self) -> Proved<KMeansOutcome> {
@@ -74,6 +76,9 @@ impl Compared for KMeansCase {
         let mut kinds = vec![number_kind(number)];
         if number == 2 && !self.work_fits {
             kinds.push(wrong_kind("training", is_shorter(self)));
+        }
+        if number == 0 {
+            kinds.extend(self.pass_kinds().into_iter().map(String::from));
         }
         kinds
     }

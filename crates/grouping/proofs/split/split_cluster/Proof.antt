@@ -106,7 +106,7 @@ module _ (r : tie.After-run-kmeans-flat) where
   ran = rw (r .before .before .before .before .before .for-grouping .ensures, labels-long (r .before .before .before .before .before .before .before .before .before .before .before .before), rows-hold (rows-of r) .is, rows-of r .gather-rows .ensures) at (r .run-kmeans-flat .ensures)
 
   found : Labelled (z .args .rows) (parts z) (z .args .part .now) labels-after
-  found = labelled (z .args .dim) _ (table z) (z .args .part .now) (z .pre .1 .1 .1 .1) (z .pre .0 .limits .1 .0 .0) (z .pre .1 .0) (z .pre .1 .1 .1 .0) ran
+  found = labelled (z .args .dim) _ (table z) (z .args .part .now) (z .pre .1 .1 .1 .1) (z .good .1 .1 .1 .1 .1 .0 .1 .1 .1 .0 .1) (z .pre .0 .limits .1 .0 .0) (z .pre .1 .0) (z .pre .1 .1 .1 .0) ran
 
 -- the copy of the group
 copied-hold : (c : tie.After-copy-cells) → let z = start-of (rows-of (c .before .before .before .before .before .before .before)) in Front (size z) (c .copy-cells .last .0 ++ drop (size z) (c .before .before .before .before .before .before .before .before .before .before .before .before .before .before .before .before .before .before .cell-room2 .result)) (z .args .part .now)

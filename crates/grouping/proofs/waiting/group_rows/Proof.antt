@@ -105,7 +105,7 @@ loop-holds c =
     let a = s .args in (
       record { order-kept = refl; ends-kept = refl; sizes-kept = refl; waiting-kept = refl; gathered-kept = refl; training-kept = refl },
       clustering-start (a .draws .now) (a .dim) (a .values .now) (length (a .sizes .now)) (a .config .weight) (a .config .limit) (a .config .budget) (a .order .now) (s .pre .1 .1 .0)
-          (a .waiting .now) (a .ends .now) (c .before .least .result) (c .new .result) (s .pre .1 .0 .1 .1) (s .pre .1 .0 .0) (s .pre .1 .1 .1 .0) (s .pre .1 .1 .1 .1 .0) (c .before .least .ensures) (c .new .ensures),
+          (a .waiting .now) (a .ends .now) (c .before .least .result) (c .new .result) (s .pre .1 .0 .1 .1) (s .pre .1 .0 .0) (s .pre .1 .1 .1 .0) (s .pre .1 .1 .1 .1 .0) (c .before .least .ensures) (c .new .ensures (a .draws .now)),
     )
 
 sub-wide : tie.Need-sub-wide Inv-loop μ-loop

@@ -1,3 +1,4 @@
+use Rattle.sums.proofs.Passes.{start-inside}
 use Rattle.kmeans.proofs.Calls.{Fitting, fitting, gives-refused, gives-run}
 use lib.ListN.{length}
 use mathlib.Core.Path.{sym, _∙_}
@@ -25,7 +26,8 @@ new-requires c κs = search needs
 run-kmeans-flat-requires : tie.Need-run-kmeans-flat-requires
 run-kmeans-flat-requires c κs =
     let f = fits (c .before .before .before .before) in
-    (f .limits, (f .cells, rw (c .before .before .before .new .ensures) (f .some-draws)))
+    let draws = c .before .before .before .before .before .before .before .before .before .before .before .args .draws .now in
+    (f .limits, (f .cells, start-inside draws (c .before .before .before .new .result) (c .before .before .before .new .ensures draws) (f .some-draws)))
 
 same-length : tie.Need-same-length
 same-length c = c .before .before .before .before .before .before .run-kmeans-flat .kept .1 .1 .1 .1 .1 .1 .0
@@ -41,7 +43,7 @@ returns-2 c =
     let a = c .before .before .before .before .before .before .before .before .before .before .before .before .before .before .before .before .before .before .args in
     let w = c .before .before .before .before .before .before .run-kmeans-flat in
     gives-run (a .rows) (a .dim) (a .k) (a .config) (a .draws .now) (a .values .now) (length (a .labels .now)) (length (a .centroids .now)) (length (a .training .now)) (c .before .before .before .before .before .before .before .before .before .before .new .result) (w .result) _ _
-    (sym (c .before .before .before .before .before .before .before .before .before .before .before .before .refusal .ensures) ∙ c .before .before .before .before .before .before .before .before .before .before .before .if1 .left) (c .before .before .before .before .before .before .before .before .before .before .new .ensures) (w .kept .1 .1 .1 .1 .1 .1 .0) (w .kept .1 .1 .1 .1 .1 .1 .1 .0) (w .ensures)
+    (sym (c .before .before .before .before .before .before .before .before .before .before .before .before .refusal .ensures) ∙ c .before .before .before .before .before .before .before .before .before .before .before .if1 .left) (c .before .before .before .before .before .before .before .before .before .before .new .ensures (a .draws .now)) (w .kept .1 .1 .1 .1 .1 .1 .0) (w .kept .1 .1 .1 .1 .1 .1 .1 .0) (w .ensures)
 
 pub answer-spec : {M : Type 1} → statement M
 answer-spec =
