@@ -1,6 +1,6 @@
 //! Speed of two builds of the exported library, side by side in one run on one thread: the old one's median time over the new one's.
 //!
-//! `benchmark_two OLD.so NEW.so [ROUNDS]`. A build becomes such a file by
+//! `benchmark_two OLD.so NEW.so [ROUNDS] [WORD..]`: all, or what has these words in its name. A build becomes such a file by
 //! `cc -shared -o NEW.so -Wl,--whole-archive target/staticlib/libexports.a -Wl,--no-whole-archive`.
 
 use std::env::args;
@@ -203,6 +203,9 @@ impl Batch {
 
 /// One line: both medians, their ratio, and whether both gave the same.
 fn measure<T: PartialEq>(rounds: usize, name: &str, old: impl Fn() -> T, new: impl Fn() -> T) {
+    if !args().skip(4).all(|word| name.contains(&word)) {
+        return;
+    }
     let same = match old() == new() {
         true => "the same answers",
         false => "other answers",
@@ -218,7 +221,7 @@ fn measure<T: PartialEq>(rounds: usize, name: &str, old: impl Fn() -> T, new: im
 fn main() {
     let words: Vec<String> = args().skip(1).collect();
     let [old, new, rest @ ..] = &words[..] else {
-        panic!("benchmark_two OLD.so NEW.so [ROUNDS]");
+        panic!("benchmark_two OLD.so NEW.so [ROUNDS] [WORD..]");
     };
     let rounds = rest
         .first()
