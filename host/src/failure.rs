@@ -4,11 +4,8 @@ use std::fmt;
 
 #[derive(Clone, Debug, PartialEq, Eq)]
 pub enum Failure {
-    /// The engine refused, by this number; the text names what it refused and why.
-    Refused {
-        number: u32,
-        what: String,
-    },
+    /// The engine refused; the text has what it refused, by which number, and why.
+    Refused(String),
     Usage(String),
     /// A CSV or a batch file that does not hold what it should.
     Input(String),
@@ -19,7 +16,7 @@ pub enum Failure {
 impl Failure {
     pub fn exit_code(&self) -> u8 {
         match self {
-            Failure::Refused { .. } => 1,
+            Failure::Refused(_) => 1,
             Failure::Usage(_) => 2,
             Failure::Input(_) => 3,
             Failure::System(_) => 4,
@@ -27,8 +24,7 @@ impl Failure {
     }
 
     pub fn refused(number: u32, file: impl fmt::Display, why: impl fmt::Display) -> Self {
-        let what = format!("{file}: refused {number}: {why}");
-        Failure::Refused { number, what }
+        Failure::Refused(format!("{file}: refused {number}: {why}"))
     }
 
     /// Something in a file, named by the file.
@@ -44,7 +40,7 @@ impl Failure {
 
 impl fmt::Display for Failure {
     fn fmt(&self, out: &mut fmt::Formatter) -> fmt::Result {
-        let (Failure::Refused { what: text, .. }
+        let (Failure::Refused(text)
         | Failure::Usage(text)
         | Failure::Input(text)
         | Failure::System(text)) = self;

@@ -1,10 +1,9 @@
 //! `families list`: a batch goes through the listing program, and its rows get their serial numbers.
 
-use std::ffi::OsString;
 use std::fmt::Write;
 use std::path::PathBuf;
 
-use clap::{value_parser, Args};
+use clap::Args;
 
 use super::Done;
 use crate::answers::batch_file::{misshapen, Batch};
@@ -12,7 +11,7 @@ use crate::answers::digest::{Fit, Tie};
 use crate::answers::listing::{Families, Listing};
 use crate::answers::{listing_program, refusals};
 use crate::failure::Failure;
-use crate::options::reading::asked;
+use crate::options::reading::{asked, source};
 use crate::reading::cells::Fault;
 use crate::reading::decimal::Words;
 use crate::reading::source::Source;
@@ -22,12 +21,12 @@ use crate::showing::text::summary;
 #[derive(Args, Clone, Debug)]
 pub struct List {
     /// The batch file; `-` is standard input
-    #[arg(value_name = "BATCH.bin", value_parser = value_parser!(OsString))]
-    file: OsString,
+    #[arg(value_name = "BATCH.bin", value_parser = source())]
+    file: Source,
 
     /// The readings that the batch was made from, with serial numbers; else meters are shown by row number
-    #[arg(long, value_name = "READINGS.csv", value_parser = value_parser!(OsString))]
-    serials: Option<OsString>,
+    #[arg(long, value_name = "READINGS.csv", value_parser = source())]
+    serials: Option<Source>,
 
     /// The first column of that file holds serial numbers, be they numbers too
     #[arg(long, requires = "serials")]
@@ -40,8 +39,7 @@ pub struct List {
 
 impl List {
     pub fn run(&self) -> Result<Done, Failure> {
-        let source = Source::from(self.file.clone());
-        let file = source.read()?;
+        let file = self.file.read()?;
         let batch = Batch::from_file(&file);
         let serials = self.serials(batch.as_ref())?;
         let program = listing_program::find(self.listing.as_deref())?;
@@ -49,7 +47,7 @@ impl List {
             Listing::Accepted(families) => families,
             Listing::Refused(number) => {
                 let why = why(number, &file, batch, serials);
-                return Err(Failure::refused(number, source, why));
+                return Err(Failure::refused(number, &self.file, why));
             }
         };
         let broken = |what: &str| Failure::system(program.display(), what);
@@ -68,16 +66,15 @@ impl List {
 
     /// The file of serials, where one is named, held against the batch before anything runs.
     fn serials(&self, batch: Option<&Batch>) -> Result<Option<Table>, Failure> {
-        let Some(path) = &self.serials else {
+        let Some(source) = &self.serials else {
             return Ok(None);
         };
-        let source = Source::from(path.clone());
         let rules = Rules {
             first_column: asked(self.serial_column, false),
             options: ["--serial-column", "a file with serial numbers"],
             words: Words::NotTaken,
         };
-        let table = Table::of(&source, rules)?;
+        let table = Table::of(source, rules)?;
         if table.serials.is_none() && table.rows > 0 {
             return Err(Failure::input(source, "no serial numbers in it"));
         }

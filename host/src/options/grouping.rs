@@ -5,7 +5,7 @@ use std::path::Path;
 
 use clap::{value_parser, Args};
 
-use super::reading::ReadingOptions;
+use super::reading::{source, ReadingOptions};
 use crate::answers::draws::{any_seed, Draws};
 use crate::answers::report::Report;
 use crate::answers::settings::{Settings, BRANCHING, BUDGET, LIMIT};
@@ -19,8 +19,8 @@ use crate::reading::table::Table;
 #[derive(Args, Clone, Debug)]
 pub struct GroupingOptions {
     /// Readings, one meter to a line; `-` is standard input
-    #[arg(value_name = "READINGS.csv", value_parser = value_parser!(std::ffi::OsString))]
-    file: std::ffi::OsString,
+    #[arg(value_name = "READINGS.csv", value_parser = source())]
+    file: Source,
 
     #[command(flatten)]
     reading: ReadingOptions,
@@ -45,7 +45,7 @@ pub struct GroupingOptions {
     #[arg(long, value_name = "N")]
     seed: Option<u64>,
 
-    /// How many draws are made, 1 to 4096
+    /// How many draws are listed, 1 to 4096; where more are needed, the list is gone through again, each draw one more than before
     #[arg(long, value_name = "N", default_value = "256", value_parser = value_parser!(u32).range(1..=4_096))]
     draws: u32,
 
@@ -71,20 +71,16 @@ pub struct Asked {
 }
 
 impl GroupingOptions {
-    pub fn source(&self) -> Source {
-        Source::from(self.file.clone())
-    }
-
     pub fn read(&self) -> Result<Asked, Failure> {
-        let source = self.source();
-        let table = Table::of(&source, self.reading.rules(Words::NotTaken))?;
+        let source = &self.file;
+        let table = Table::of(source, self.reading.rules(Words::NotTaken))?;
         if table.readings == 0 {
             let what = "empty, so that nothing tells how many readings a row has";
             return Err(Failure::input(source, what));
         }
         let warnings = warnings::of_rows(&table);
         let mut notes = vec![format!("{source}: {}", table.told())];
-        notes.extend(warned(&source, &warnings, self.fail_on_warning)?);
+        notes.extend(warned(source, &warnings, self.fail_on_warning)?);
         let seed = self.seed.unwrap_or_else(any_seed);
         if self.seed.is_none() {
             notes.push(format!(
@@ -92,7 +88,7 @@ impl GroupingOptions {
             ));
         }
         Ok(Asked {
-            source,
+            source: source.clone(),
             table,
             settings: Settings {
                 limit: self.limit,
@@ -139,7 +135,12 @@ impl ReportOptions {
         let (table, settings, draws) = (asked.table, asked.settings, asked.draws);
         let grouping = grouping::families(&table, settings, draws).map_err(|number| {
             let why = refusals::of_grouping(number, &table, settings, draws.count);
-            Failure::refused(number, &asked.source, why)
+            // The seed may have been chosen, and another one may not be refused.
+            Failure::refused(
+                number,
+                &asked.source,
+                format!("{why} (seed {})", draws.seed),
+            )
         })?;
         let report = Report {
             source: asked.source.to_string(),
@@ -155,7 +156,7 @@ impl ReportOptions {
 
     /// A file that is written must not be the one that is read.
     pub fn check_written(&self, path: Option<&Path>) -> Result<(), Failure> {
-        let source = self.grouping.source();
+        let source = &self.grouping.file;
         let real = |path: &Path| fs::canonicalize(path).ok();
         let read = source.path().and_then(|path| real(path));
         match path.and_then(real) {

@@ -1,11 +1,9 @@
 //! Rows that are held against given centroids, and the lines that come of it.
 
-use std::ffi::OsString;
-
-use clap::{value_parser, Args};
+use clap::Args;
 
 use super::grouping::warned;
-use super::reading::{asked, ReadingOptions};
+use super::reading::{asked, source, ReadingOptions};
 use crate::answers::nearest::Centroids;
 use crate::answers::refusals::{self, Nearest};
 use crate::answers::warnings;
@@ -17,12 +15,12 @@ use crate::reading::table::{Rules, Table};
 #[derive(Args, Clone, Debug)]
 pub struct NearestOptions {
     /// Rows, one meter to a line; `-` is standard input
-    #[arg(value_name = "ROWS.csv", value_parser = value_parser!(OsString))]
-    file: OsString,
+    #[arg(value_name = "ROWS.csv", value_parser = source())]
+    file: Source,
 
     /// Centroids, one to a line; where its first column holds names, they are printed
-    #[arg(long, value_name = "FILE.csv")]
-    centroids: OsString,
+    #[arg(long, value_name = "FILE.csv", value_parser = source())]
+    centroids: Source,
 
     /// Readings to a row; as many as the rows have where it is not given
     #[arg(long, value_name = "N")]
@@ -63,18 +61,17 @@ impl NearestOptions {
             true => Words::Taken,
             false => Words::NotTaken,
         };
-        let source = Source::from(self.file.clone());
-        let rows = Table::of(&source, self.reading.rules(words))?;
+        let rows = Table::of(&self.file, self.reading.rules(words))?;
         let rules = Rules {
             first_column: asked(self.centroid_names, self.no_centroid_names),
             options: ["--centroid-names", "--no-centroid-names"],
             words,
         };
-        let centroid_table = Table::of(&Source::from(self.centroids.clone()), rules)?;
+        let centroid_table = Table::of(&self.centroids, rules)?;
         Ok(Given {
             dim: self.dim.unwrap_or(rows.readings as u32),
             centroids: Centroids::new(centroid_table.rows as u32, &centroid_table.values),
-            source,
+            source: self.file.clone(),
             rows,
             centroid_table,
         })

@@ -1,10 +1,17 @@
 //! How a CSV of readings is to be read.
 
+use clap::builder::{OsStringValueParser, TypedValueParser};
 use clap::Args;
 
 use crate::reading::column::Asked;
 use crate::reading::decimal::Words;
+use crate::reading::source::Source;
 use crate::reading::table::Rules;
+
+/// A file by its path, or `-`.
+pub fn source() -> impl TypedValueParser<Value = Source> {
+    OsStringValueParser::new().map(Source::from)
+}
 
 #[derive(Args, Clone, Copy, Debug)]
 pub struct ReadingOptions {

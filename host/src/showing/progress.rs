@@ -39,7 +39,6 @@ fn spinner() -> ProgressBar {
     if let Ok(style) = ProgressStyle::with_template("{spinner} families: working, {elapsed}") {
         bar.set_style(style);
     }
-    bar.reset_elapsed();
     bar.enable_steady_tick(TURN);
     bar.with_elapsed(MOMENT)
 }

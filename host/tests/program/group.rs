@@ -170,8 +170,13 @@ fn refusals_say_what_to_change() {
         "branching of 3",
     ];
     refused(three, "--limit 2 --branching 4", &told);
-    let told = ["refused 7: ", "budget of 0", "at least 1 splits"];
-    refused(three, "--limit 2 --branching 2 --budget 0", &told);
+    let told = [
+        "refused 7: ",
+        "budget of 0",
+        "at least 1 splits",
+        "(seed 5)",
+    ];
+    refused(three, "--limit 2 --branching 2 --budget 0 --seed 5", &told);
     refused(
         three,
         "--limit 0 --branching 2",
