@@ -61,15 +61,10 @@ fn taken_apart(order: &[u16], ends: &[u16], means: &[f32], dim: usize) -> Vec<Fa
 #[cfg(test)]
 mod tests {
     use super::*;
+    use crate::reading::table::tests::table;
 
     fn p1(limit: u32, budget: u32) -> Result<Grouping, u32> {
-        let table = Table {
-            rows: 4,
-            readings: 1,
-            values: vec![0.0, 1.0, 10.0, 11.0],
-            serials: None,
-            names: None,
-        };
+        let table = table(1, &[0.0, 1.0, 10.0, 11.0]);
         let settings = Settings {
             limit,
             branching: 2,

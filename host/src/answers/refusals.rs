@@ -182,16 +182,7 @@ fn unknown(number: u32) -> String {
 #[cfg(test)]
 mod tests {
     use super::*;
-
-    fn table(readings: usize, values: &[f32]) -> Table {
-        Table {
-            rows: values.len() / readings,
-            readings,
-            values: values.to_vec(),
-            serials: None,
-            names: None,
-        }
-    }
+    use crate::reading::table::tests::table;
 
     fn settings(limit: u32, branching: u32, weight: f32, budget: u32) -> Settings {
         Settings {

@@ -89,16 +89,7 @@ fn shown(means: &[f64]) -> String {
 #[cfg(test)]
 mod tests {
     use super::*;
-
-    fn table(readings: usize, values: &[f32]) -> Table {
-        Table {
-            rows: values.len() / readings,
-            readings,
-            values: values.to_vec(),
-            serials: None,
-            names: None,
-        }
-    }
+    use crate::reading::table::tests::table;
 
     #[test]
     fn readings_near_zero_need_no_word() {

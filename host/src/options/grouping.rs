@@ -60,7 +60,7 @@ pub fn float(text: &str) -> Result<f32, &'static str> {
 }
 
 /// What there is to group, and what is to be said of it.
-pub struct Asked {
+pub struct ToGroup {
     pub source: Source,
     pub table: Table,
     pub settings: Settings,
@@ -71,7 +71,7 @@ pub struct Asked {
 }
 
 impl GroupingOptions {
-    pub fn read(&self) -> Result<Asked, Failure> {
+    pub fn read(&self) -> Result<ToGroup, Failure> {
         let source = &self.file;
         let table = Table::of(source, self.reading.rules(Words::NotTaken))?;
         if table.readings == 0 {
@@ -87,7 +87,7 @@ impl GroupingOptions {
                 "seed {seed} was chosen; --seed {seed} repeats this run"
             ));
         }
-        Ok(Asked {
+        Ok(ToGroup {
             source: source.clone(),
             table,
             settings: Settings {
@@ -158,7 +158,7 @@ impl ReportOptions {
     pub fn check_written(&self, path: Option<&Path>) -> Result<(), Failure> {
         let source = &self.grouping.file;
         let real = |path: &Path| fs::canonicalize(path).ok();
-        let read = source.path().and_then(|path| real(path));
+        let read = source.path().and_then(real);
         match path.and_then(real) {
             Some(written) if Some(&written) == read.as_ref() => Err(Failure::Usage(format!(
                 "{source} holds the readings and is not written over"

@@ -253,8 +253,19 @@ fn read_serials(rows: &[Vec<String>], header: bool) -> Result<Vec<String>, Fault
 }
 
 #[cfg(test)]
-mod tests {
+pub mod tests {
     use super::*;
+
+    /// Rows of so many readings, without names or serials.
+    pub fn table(readings: usize, values: &[f32]) -> Table {
+        Table {
+            rows: values.len() / readings,
+            readings,
+            values: values.to_vec(),
+            serials: None,
+            names: None,
+        }
+    }
 
     const PLAIN: Rules = Rules {
         first_column: Asked::Nothing,

@@ -70,6 +70,7 @@ fn median(values: &[f64]) -> Option<f64> {
 #[cfg(test)]
 mod tests {
     use super::*;
+    use crate::reading::table::tests::table;
 
     fn odd(each: &[f64]) -> Vec<usize> {
         let spreads = Spreads {
@@ -77,16 +78,6 @@ mod tests {
             median: median(each),
         };
         spreads.odd()
-    }
-
-    fn table(readings: usize, values: &[f32]) -> Table {
-        Table {
-            rows: values.len() / readings,
-            readings,
-            values: values.to_vec(),
-            serials: None,
-            names: None,
-        }
     }
 
     #[test]
