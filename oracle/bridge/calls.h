@@ -8,8 +8,8 @@ typedef __UINT64_TYPE__ uint64_t;
 typedef __UINTPTR_TYPE__ uintptr_t;
 typedef __SIZE_TYPE__ size_t;
 
-enum { LABEL, CLOSURE, LABEL_ROWS, KMEANS, GROUP, LIST };
-enum { NUMBERS = 8, MOST_SLICES = 9 };
+enum { LABEL, CLOSURE, LABEL_ROWS, PLACE_ROWS, KMEANS, GROUP, LIST };
+enum { NUMBERS = 8, MOST_SLICES = 10 };
 
 struct header {
     uint32_t which;

@@ -94,27 +94,34 @@ uint32_t families_closure(uint32_t dim, uint32_t count, uint16_t max_replicas, f
 }
 
 uint32_t families_label_rows(uint32_t rows, uint32_t dim, uint32_t k, SLICE(const float, values), SLICE(const float, centroids),
-                             SLICE(uint16_t, labels)) {
-    struct lent lent[] = {READ(values), READ(centroids), WRITTEN(labels)};
+                             SLICE(uint16_t, labels), uint32_t *unplaced) {
+    struct lent lent[] = {READ(values), READ(centroids), WRITTEN(labels), FIGURE(unplaced)};
     FORWARD(LABEL_ROWS, rows, dim, k);
+}
+
+uint32_t families_place_rows(uint32_t rows, uint32_t dim, uint32_t k, SLICE(const float, values), SLICE(const float, centroids),
+                             SLICE(uint16_t, labels), SLICE(float, distances), uint32_t *unplaced) {
+    struct lent lent[] = {READ(values), READ(centroids), WRITTEN(labels), WRITTEN(distances), FIGURE(unplaced)};
+    FORWARD(PLACE_ROWS, rows, dim, k);
 }
 
 uint32_t families_kmeans(uint32_t rows, uint32_t dim, uint32_t k, uint32_t iterations, uint32_t restarts, uint32_t points, uint32_t block,
                          SLICE(const uint32_t, draws), SLICE(const float, values), SLICE(uint16_t, labels), SLICE(float, centroids),
-                         double *objective, uint32_t *restart, SLICE(float, training)) {
+                         double *objective, uint32_t *restart, uint32_t *unplaced, SLICE(float, training)) {
     struct lent lent[] = {
-        READ(draws),       READ(values),    WRITTEN(labels),   WRITTEN(centroids),
-        FIGURE(objective), FIGURE(restart), WRITTEN(training),
+        READ(draws),       READ(values),    WRITTEN(labels),  WRITTEN(centroids),
+        FIGURE(objective), FIGURE(restart), FIGURE(unplaced), WRITTEN(training),
     };
     FORWARD(KMEANS, rows, dim, k, iterations, restarts, points, block);
 }
 
 uint32_t families_group(uint32_t rows, uint32_t dim, uint32_t limit, uint32_t branching, float weight, uint32_t budget,
                         SLICE(const uint32_t, draws), SLICE(const float, values), SLICE(uint16_t, order), SLICE(uint16_t, ends),
-                        SLICE(float, means), uint32_t *groups, uint32_t *splits, SLICE(float, gathered), SLICE(float, training)) {
+                        SLICE(float, means), uint32_t *groups, uint32_t *splits, uint32_t *unplaced, SLICE(float, gathered),
+                        SLICE(float, training)) {
     struct lent lent[] = {
-        READ(draws),    READ(values),   WRITTEN(order),    WRITTEN(ends),     WRITTEN(means),
-        FIGURE(groups), FIGURE(splits), WRITTEN(gathered), WRITTEN(training),
+        READ(draws),    READ(values),   WRITTEN(order),   WRITTEN(ends),     WRITTEN(means),
+        FIGURE(groups), FIGURE(splits), FIGURE(unplaced), WRITTEN(gathered), WRITTEN(training),
     };
     FORWARD(GROUP, rows, dim, limit, branching, bits(weight), budget);
 }

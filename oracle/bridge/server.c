@@ -121,10 +121,12 @@ static float float_of(uint32_t bits) {
 
 uint32_t families_label(uint32_t, uint32_t, TWO, TWO, TWO);
 uint32_t families_closure(uint32_t, uint32_t, uint16_t, float, TWO, TWO, TWO);
-uint32_t families_label_rows(uint32_t, uint32_t, uint32_t, TWO, TWO, TWO);
+uint32_t families_label_rows(uint32_t, uint32_t, uint32_t, TWO, TWO, TWO, uint32_t *);
+uint32_t families_place_rows(uint32_t, uint32_t, uint32_t, TWO, TWO, TWO, TWO, uint32_t *);
 uint32_t families_kmeans(uint32_t, uint32_t, uint32_t, uint32_t, uint32_t, uint32_t, uint32_t, TWO, TWO, TWO, TWO, double *, uint32_t *,
-                         TWO);
-uint32_t families_group(uint32_t, uint32_t, uint32_t, uint32_t, float, uint32_t, TWO, TWO, TWO, TWO, TWO, uint32_t *, uint32_t *, TWO, TWO);
+                         uint32_t *, TWO);
+uint32_t families_group(uint32_t, uint32_t, uint32_t, uint32_t, float, uint32_t, TWO, TWO, TWO, TWO, TWO, uint32_t *, uint32_t *,
+                        uint32_t *, TWO, TWO);
 uint32_t families_list(TWO, TWO);
 
 static uint32_t call(uint32_t which, const uint32_t *n) {
@@ -134,15 +136,17 @@ static uint32_t call(uint32_t which, const uint32_t *n) {
     case CLOSURE:
         return families_closure(n[0], n[1], n[2], float_of(n[3]), SLICE(0), SLICE(1), SLICE(2));
     case LABEL_ROWS:
-        return families_label_rows(n[0], n[1], n[2], SLICE(0), SLICE(1), SLICE(2));
+        return families_label_rows(n[0], n[1], n[2], SLICE(0), SLICE(1), SLICE(2), FIGURE(3));
+    case PLACE_ROWS:
+        return families_place_rows(n[0], n[1], n[2], SLICE(0), SLICE(1), SLICE(2), SLICE(3), FIGURE(4));
     case KMEANS:
         return families_kmeans(n[0], n[1], n[2], n[3], n[4], n[5], n[6], SLICE(0), SLICE(1), SLICE(2), SLICE(3), FIGURE(4), FIGURE(5),
-                               SLICE(6));
+                               FIGURE(6), SLICE(7));
     case LIST:
         return families_list(SLICE(0), SLICE(1));
     default:
         return families_group(n[0], n[1], n[2], n[3], float_of(n[4]), n[5], SLICE(0), SLICE(1), SLICE(2), SLICE(3), SLICE(4), FIGURE(5),
-                              FIGURE(6), SLICE(7), SLICE(8));
+                              FIGURE(6), FIGURE(7), SLICE(8), SLICE(9));
     }
 }
 

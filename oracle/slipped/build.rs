@@ -11,7 +11,7 @@ struct Slip {
     edits: &'static [(&'static str, usize, &'static str)],
 }
 
-const SLIPS: [Slip; 7] = [
+const SLIPS: [Slip; 12] = [
     // Scores are squared differences instead of the norm formula.
     Slip {
         name: "squared_differences",
@@ -85,6 +85,79 @@ const SLIPS: [Slip; 7] = [
             "wrapping_add(pass as u32)",
             1,
             "wrapping_add(0 * pass as u32)",
+        )],
+    },
+    // Request (ii): a row of label 0 counts as unplaced.
+    Slip {
+        name: "zero_is_unplaced",
+        file: "kmeans.rs",
+        edits: &[(
+            "matches!(found, Placement::Unplaced)",
+            1,
+            "found.label() == 0",
+        )],
+    },
+    // Request (ii): an unplaced row's distance is zero.
+    Slip {
+        name: "unplaced_at_zero",
+        file: "kmeans.rs",
+        edits: &[(
+            "Placement::Unplaced => f32::INFINITY",
+            1,
+            "Placement::Unplaced => 0.0",
+        )],
+    },
+    // Request (ii): the count is that of the last restart, be another one kept.
+    Slip {
+        name: "last_restarts_count",
+        file: "kmeans.rs",
+        edits: &[
+            (
+                "let mut kept: Option<KMeansResult> = None;",
+                1,
+                "let mut kept: Option<KMeansResult> = None;
+                let mut last = 0;",
+            ),
+            (
+                "if restart == 0 {",
+                1,
+                "last = result.unplaced;
+                if restart == 0 {",
+            ),
+            (
+                "kept.unwrap()\n",
+                1,
+                "KMeansResult { unplaced: last, ..kept.unwrap() }\n",
+            ),
+        ],
+    },
+    // Request (ii): the labelling of the training rows counts as well as that of all rows.
+    Slip {
+        name: "training_counted",
+        file: "kmeans.rs",
+        edits: &[(
+            "let unplaced = unplaced_of(&placements);",
+            1,
+            "let unplaced = unplaced_of(&placements)
+                + unplaced_of(&assign_full_dataset(
+                    training,
+                    &training_norms,
+                    k,
+                    dim,
+                    &columns,
+                    &column_norms,
+                    config.decode_block_size,
+                ));",
+        )],
+    },
+    // Request (ii): the first split's count is left out.
+    Slip {
+        name: "first_split_uncounted",
+        file: "clustering.rs",
+        edits: &[(
+            "unplaced += lost;",
+            1,
+            "unplaced += if splits > 1 { lost } else { 0 };",
         )],
     },
 ];

@@ -7,7 +7,8 @@ use crate::closure::ClosureAssigner;
 use crate::clustering::{Grouping, HierarchicalClustering, Member};
 use crate::draws::Draws;
 use crate::kmeans::{
-    assign_full_dataset, compute_norms, rebuild_centroid_views, run_kmeans_flat, KMeansConfig,
+    assign_full_dataset, compute_norms, rebuild_centroid_views, run_kmeans_flat, unplaced_of,
+    KMeansConfig, Placement,
 };
 use crate::refusal::Refusal;
 
@@ -74,6 +75,7 @@ fn write_cells(cells: &mut [u16], indices: impl IntoIterator<Item = usize>) {
 
 // ---- labelling
 
+/// Answers how many rows are unplaced.
 pub fn labelling(
     rows: u32,
     dim: u32,
@@ -81,22 +83,61 @@ pub fn labelling(
     values: &[f32],
     centroids: &[f32],
     labels: &mut [u16],
-) -> Result<(), Refusal> {
+) -> Result<u32, Refusal> {
     labels.fill(BLANK_CELL);
+    let results = [labels.len()];
+    let placements = placements(rows, dim, k, values, centroids, &results)?;
+    write_cells(labels, placements.iter().map(|found| found.label()));
+    Ok(unplaced_of(&placements))
+}
+
+/// As `labelling`, with each row's distance beside its label.
+pub fn placing(
+    rows: u32,
+    dim: u32,
+    k: u32,
+    values: &[f32],
+    centroids: &[f32],
+    labels: &mut [u16],
+    distances: &mut [f32],
+) -> Result<u32, Refusal> {
+    labels.fill(BLANK_CELL);
+    distances.fill(BLANK_FLOAT);
+    let results = [labels.len(), distances.len()];
+    let placements = placements(rows, dim, k, values, centroids, &results)?;
+    write_cells(labels, placements.iter().map(|found| found.label()));
+    for (cell, found) in distances.iter_mut().zip(&placements) {
+        *cell = found.distance();
+    }
+    Ok(unplaced_of(&placements))
+}
+
+/// What is found for each row; every result slice has a cell for each.
+fn placements(
+    rows: u32,
+    dim: u32,
+    k: u32,
+    values: &[f32],
+    centroids: &[f32],
+    results: &[usize],
+) -> Result<Vec<Placement>, Refusal> {
     check_ranges(&[(rows, ROWS), (dim, DIM), (k, K)])?;
-    check_lengths(&[
-        (values.len(), rows * dim),
-        (centroids.len(), k * dim),
-        (labels.len(), rows),
-    ])?;
+    check_lengths(&[(values.len(), rows * dim), (centroids.len(), k * dim)])?;
+    let results: Vec<_> = results.iter().map(|&length| (length, rows)).collect();
+    check_lengths(&results)?;
 
     let (rows, dim, k) = (rows as usize, dim as usize, k as usize);
-    write_cells(labels, label_rows(values, rows, dim, centroids, k));
-    Ok(())
+    Ok(label_rows(values, rows, dim, centroids, k))
 }
 
 /// The steps by which a restart of `run_kmeans_flat` labels all rows, as a call.
-fn label_rows(values: &[f32], rows: usize, dim: usize, centroids: &[f32], k: usize) -> Vec<usize> {
+fn label_rows(
+    values: &[f32],
+    rows: usize,
+    dim: usize,
+    centroids: &[f32],
+    k: usize,
+) -> Vec<Placement> {
     let norms = compute_norms(values, rows, dim);
     let mut columns = Vec::with_capacity(dim * k);
     let mut column_norms = Vec::with_capacity(k);
@@ -131,7 +172,7 @@ impl KMeansNumbers {
         ])
     }
 
-    fn config(&self) -> KMeansConfig {
+    pub(crate) fn config(&self) -> KMeansConfig {
         KMeansConfig {
             niter: self.iterations as usize,
             nredo: self.restarts as usize,
@@ -152,6 +193,7 @@ pub struct KMeansLent<'a> {
 pub struct KMeansAccepted {
     pub objective: f64,
     pub restart: u32,
+    pub unplaced: u32,
 }
 
 pub fn kmeans(
@@ -188,6 +230,7 @@ pub fn kmeans(
     Ok(KMeansAccepted {
         objective: result.objective,
         restart: result.restart as u32,
+        unplaced: result.unplaced,
     })
 }
 
@@ -249,6 +292,8 @@ impl GroupingLent<'_> {
 pub struct GroupingAccepted {
     pub groups: u32,
     pub splits: u32,
+    /// Summed over the splits.
+    pub unplaced: u32,
 }
 
 pub fn grouping(
@@ -281,6 +326,7 @@ pub fn grouping(
     Ok(GroupingAccepted {
         groups: found.clusters.len() as u32,
         splits: found.splits as u32,
+        unplaced: found.unplaced,
     })
 }
 

@@ -14,14 +14,17 @@ mod closure;
 mod grouping;
 mod kmeans;
 mod labelling;
+mod placing;
+mod unplaced;
 mod values;
 
 pub use batch::{file_of, BatchCase};
 pub use bytes::{BytesOutcome, ClosureBytesCase, LabelBytesCase};
 pub use closure::{ClosureCase, ClosureOutcome};
 pub use grouping::{GroupingCase, GroupingOutcome};
-pub use kmeans::{KMeansCase, KMeansOutcome};
+pub use kmeans::{KMeansCase, KMeansOutcome, RestartsCase};
 pub use labelling::{LabelCase, LabelOutcome};
+pub use placing::{PlaceCase, PlaceOutcome};
 
 pub trait Case: Debug + Sized {
     type Outcome: Debug + PartialEq;

@@ -67,6 +67,7 @@ impl HierarchicalClustering {
         let mut finished = vec![];
 
         let mut splits = 0;
+        let mut unplaced = 0;
         while let Some(cluster) = waiting.pop() {
             if cluster.size() <= self.max_cluster_size {
                 finished.push(cluster);
@@ -80,7 +81,8 @@ impl HierarchicalClustering {
                 }
                 splits += 1;
 
-                let parts = self.split_cluster(&cluster, draws);
+                let (parts, lost) = self.split_cluster(&cluster, draws);
+                unplaced += lost;
 
                 for part in parts {
                     waiting.push(part);
@@ -91,10 +93,12 @@ impl HierarchicalClustering {
         Ok(Grouping {
             clusters: finished,
             splits,
+            unplaced,
         })
     }
 
-    fn split_cluster(&self, cluster: &Cluster, draws: &mut Draws) -> Vec<Cluster> {
+    /// The parts, and how many rows k-means left unplaced.
+    fn split_cluster(&self, cluster: &Cluster, draws: &mut Draws) -> (Vec<Cluster>, u32) {
         let k = self.branching_factor;
         let members = cluster.data();
 
@@ -109,11 +113,12 @@ impl HierarchicalClustering {
             parts = self.balance_clusters(parts, &found.centroids);
         }
 
-        parts
+        let parts = parts
             .into_iter()
             .filter(|part| !part.is_empty())
             .map(Cluster::from_data)
-            .collect()
+            .collect();
+        (parts, found.unplaced)
     }
 
     pub fn balance_clusters(
@@ -225,9 +230,11 @@ impl AsRef<[f32]> for Member {
     }
 }
 
-/// The clusters in the order finished, and how many splits led to them.
+/// The clusters in the order finished, how many splits led to them, and how many rows these left
+/// unplaced: a row counts once for each split that does.
 #[derive(Debug, Clone, Default)]
 pub struct Grouping {
     pub clusters: Vec<Cluster>,
     pub splits: usize,
+    pub unplaced: u32,
 }

@@ -1,6 +1,6 @@
 //! `src/kmeans.rs` of the source, its functions in its order: sums in stated order for `sgemm`, one
 //! fold in block order for the parallel ones, draws for the generator, document 01's order where a
-//! sort meets ties; without `spherical`, the seed and progress lines.
+//! sort meets ties, placements for bare labels; without `spherical`, the seed and progress lines.
 
 use std::cmp::Ordering;
 
@@ -37,6 +37,8 @@ pub struct KMeansResult {
     pub objective: f64,
     /// Which restart was kept, from 0.
     pub restart: usize,
+    /// How many rows its labelling of all rows left unplaced.
+    pub unplaced: u32,
 }
 
 /// Generic in the vector, so that members which carry a row number can be passed as they are.
@@ -112,7 +114,7 @@ pub fn run_kmeans_flat(
         let mut column_norms = Vec::with_capacity(k);
         rebuild_centroid_views(&centroids, k, dim, &mut columns, &mut column_norms);
 
-        let assignments = assign_full_dataset(
+        let placements = assign_full_dataset(
             flat,
             &norms,
             k,
@@ -121,6 +123,8 @@ pub fn run_kmeans_flat(
             &column_norms,
             config.decode_block_size,
         );
+        let unplaced = unplaced_of(&placements);
+        let assignments: Vec<usize> = placements.iter().map(|found| found.label()).collect();
 
         let objective = compute_objective(flat, &centroids, &assignments, rows, dim);
 
@@ -129,6 +133,7 @@ pub fn run_kmeans_flat(
             assignments,
             objective,
             restart,
+            unplaced,
         };
 
         if restart == 0 {
@@ -392,7 +397,6 @@ fn assign_points_for_update(
         for row in 0..len {
             let norm = block_norms[row];
             let dots = &dot_products[row * k..][..k];
-            // A row that no score places gets cluster 0 at distance infinity.
             let mut nearest = 0;
             let mut least = f32::INFINITY;
 
@@ -407,6 +411,8 @@ fn assign_points_for_update(
                 }
             }
 
+            let found = Placement::of(nearest, least);
+            let nearest = found.label();
             labels.push(nearest);
             state.counts[nearest] += 1;
 
@@ -416,7 +422,7 @@ fn assign_points_for_update(
                 sums[d] += vector[d];
             }
 
-            insert_candidate(&mut pool, (least, row));
+            insert_candidate(&mut pool, (found.distance(), row));
         }
 
         // A position inside the block becomes a training position before blocks are joined.
@@ -498,14 +504,14 @@ pub(crate) fn assign_full_dataset(
     columns: &[f32],
     column_norms: &[f32],
     decode_block_size: usize,
-) -> Vec<usize> {
+) -> Vec<Placement> {
     let rows = norms.len();
     let blocks = rows.div_ceil(decode_block_size);
-    let labels_of_blocks: Vec<(usize, Vec<usize>)> = (0..blocks)
+    let placements_of_blocks: Vec<(usize, Vec<Placement>)> = (0..blocks)
         .map(|block| {
             let start = block * decode_block_size;
             let end = rows.min(start + decode_block_size);
-            let labels = compute_chunk_assignments_only(
+            let placements = compute_chunk_assignments_only(
                 &data[start * dim..end * dim],
                 &norms[start..end],
                 end - start,
@@ -514,13 +520,13 @@ pub(crate) fn assign_full_dataset(
                 columns,
                 column_norms,
             );
-            (start, labels)
+            (start, placements)
         })
         .collect();
 
-    let mut assignments = vec![0; rows];
-    for (start, labels) in labels_of_blocks {
-        assignments[start..][..labels.len()].copy_from_slice(&labels);
+    let mut assignments = vec![Placement::Unplaced; rows];
+    for (start, placements) in placements_of_blocks {
+        assignments[start..][..placements.len()].copy_from_slice(&placements);
     }
     assignments
 }
@@ -533,13 +539,13 @@ fn compute_chunk_assignments_only(
     dim: usize,
     columns: &[f32],
     column_norms: &[f32],
-) -> Vec<usize> {
+) -> Vec<Placement> {
     // As above, for the loop over clusters.
     let column_norms = &column_norms[..k];
     let mut dot_products = vec![0.0; len * k];
     sgemm(dim, k, block_data, columns, &mut dot_products);
 
-    let mut labels = Vec::with_capacity(len);
+    let mut placements = Vec::with_capacity(len);
     for row in 0..len {
         let norm = block_norms[row];
         let dots = &dot_products[row * k..][..k];
@@ -555,12 +561,56 @@ fn compute_chunk_assignments_only(
                 nearest = cluster;
             }
         }
-        labels.push(nearest);
+        placements.push(Placement::of(nearest, least));
     }
-    labels
+    placements
 }
 
 // ---- not in the source
+
+/// What the search for a row's nearest centroid answers.
+#[derive(Clone, Copy, Debug, PartialEq)]
+pub enum Placement {
+    /// The first centroid of the least score, and that score, which is below infinity.
+    Placed { label: usize, distance: f32 },
+    /// No score is below infinity.
+    Unplaced,
+}
+
+impl Placement {
+    /// From what the loop over the scores ends with: it starts at infinity, and only a score below goes on from there.
+    fn of(nearest: usize, least: f32) -> Self {
+        match least < f32::INFINITY {
+            true => Placement::Placed {
+                label: nearest,
+                distance: least,
+            },
+            false => Placement::Unplaced,
+        }
+    }
+
+    /// The label that document 01 gives, 0 where nothing is found.
+    pub fn label(self) -> usize {
+        match self {
+            Placement::Placed { label, .. } => label,
+            Placement::Unplaced => 0,
+        }
+    }
+
+    /// The distance that document 01 gives, infinity where nothing is found.
+    pub fn distance(self) -> f32 {
+        match self {
+            Placement::Placed { distance, .. } => distance,
+            Placement::Unplaced => f32::INFINITY,
+        }
+    }
+}
+
+/// How many rows nothing was found for.
+pub(crate) fn unplaced_of(placements: &[Placement]) -> u32 {
+    let unplaced = |found: &&Placement| matches!(found, Placement::Unplaced);
+    placements.iter().filter(unplaced).count() as u32
+}
 
 /// The order of the pool: ties, which the source leaves to an unstable sort, by position.
 fn farther_first(a: &(f32, usize), b: &(f32, usize)) -> Ordering {

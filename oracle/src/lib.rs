@@ -1,5 +1,6 @@
 //! The oracle: the clustering part of lqhl/rabitq-rs (`src/kmeans.rs`, `src/mstg/clustering.rs`,
-//! `src/mstg/closure.rs`, `l2_distance_sqr`), with the substitutions of document 01 and no others.
+//! `src/mstg/closure.rs`, `l2_distance_sqr`), with the substitutions of document 01, as document 02
+//! amends them, and no others.
 //!
 //! `kmeans`, `clustering`, `closure` and `math` have the functions of the source's files of these
 //! names, in their order and with their order of steps, so that both can be held side by side

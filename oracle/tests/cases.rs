@@ -5,7 +5,7 @@ use std::collections::BTreeMap;
 use oracle::calls::{label_bytes, BLANK_CELL};
 use oracle::cases::{
     BatchCase, Case, ClosureBytesCase, ClosureCase, GroupingCase, GroupingOutcome, KMeansCase,
-    LabelBytesCase, LabelCase,
+    LabelBytesCase, LabelCase, PlaceCase, RestartsCase,
 };
 
 const SEED: u64 = 7;
@@ -32,6 +32,7 @@ fn assert_met<C: Case>(numbers: &[u32]) {
 #[test]
 fn every_refusal_is_met() {
     assert_met::<LabelCase>(&[0, 1, 2]);
+    assert_met::<PlaceCase>(&[0, 1, 2]);
     assert_met::<KMeansCase>(&[0, 1, 2, 3, 4]);
     assert_met::<ClosureCase>(&[0, 1, 2, 5]);
     assert_met::<LabelBytesCase>(&[0, 1, 2]);
@@ -59,6 +60,7 @@ fn assert_repeatable<C: Case>() {
 #[test]
 fn a_seed_and_an_index_name_a_case() {
     assert_repeatable::<LabelCase>();
+    assert_repeatable::<PlaceCase>();
     assert_repeatable::<KMeansCase>();
     assert_repeatable::<GroupingCase>();
     assert_repeatable::<ClosureCase>();
@@ -80,6 +82,11 @@ fn a_refusal_leaves_only_blanks() {
     for case in all::<LabelCase>() {
         let outcome = case.run();
         assert!(outcome.answer.is_ok() || blank(&outcome.labels));
+    }
+    for case in all::<PlaceCase>() {
+        let outcome = case.run();
+        let blanks = blank(&outcome.labels) && zero(&outcome.distances);
+        assert!(outcome.answer.is_ok() || blanks);
     }
     for case in all::<KMeansCase>() {
         let outcome = case.run();
@@ -167,12 +174,103 @@ fn kmeans_labels_are_labels_of_its_centroids() {
                 .collect(),
             label_cells: case.label_cells,
         };
-        assert_eq!(labelling.run().labels, outcome.labels);
+        let labelled = labelling.run();
+        assert_eq!(labelled.labels, outcome.labels);
+        // Those of the restart kept, since the centroids are.
+        assert_eq!(labelled.answer, outcome.answer.map(|found| found.2));
     }
 }
 
+/// Request (ii) of document 02: the count is that of infinite distances, and an unplaced row has label 0.
+#[test]
+fn unplaced_rows_are_those_at_infinity() {
+    for case in all::<PlaceCase>() {
+        let outcome = case.run();
+        let Ok(unplaced) = outcome.answer else {
+            continue;
+        };
+        let each = outcome.labels.iter().zip(&outcome.distances);
+        let lost: Vec<_> = each
+            .filter(|(_, &bits)| bits == f32::INFINITY.to_bits())
+            .collect();
+        assert_eq!(lost.len(), unplaced as usize);
+        assert!(lost.iter().all(|(&label, _)| label == 0));
+        let labelled = case.labelling.run();
+        assert_eq!(labelled.answer, Ok(unplaced));
+        assert_eq!(labelled.labels, outcome.labels);
+    }
+}
+
+#[test]
+fn a_batch_within_the_limit_has_no_unplaced_rows() {
+    let mut case = GroupingCase::simple(&[f32::NAN, f32::NAN], 2, 2, 0.0, 9);
+    assert_eq!(case.run().answer.unwrap().unplaced, 0);
+    // Balancing alone parts them: four rows, then three of them, then two.
+    case = GroupingCase::simple(&[f32::NAN; 4], 1, 2, 0.5, 9);
+    let accepted = case.run().answer.unwrap();
+    assert_eq!((accepted.splits, accepted.unplaced), (3, 4 + 3 + 2));
+}
+
+/// Asks that the accepted cases meet each of these kinds.
+fn assert_kinds<C: Case>(kinds: fn(&C, &C::Outcome) -> Vec<&'static str>, needed: &[&'static str]) {
+    let mut met: BTreeMap<&str, u64> = BTreeMap::new();
+    for case in all::<C>() {
+        let outcome = case.run();
+        if C::number(&outcome) == 0 {
+            for kind in kinds(&case, &outcome) {
+                *met.entry(kind).or_default() += 1;
+            }
+        }
+    }
+    println!("{}: {met:?}", C::NAME);
+    for kind in needed.iter().chain(&UNPLACED_ROWS) {
+        assert!(met.contains_key(kind), "{} has no `{kind}`", C::NAME);
+    }
+}
+
+const UNPLACED_ROWS: [&str; 3] = ["a NaN row", "an infinite row", "a row whose norm overflows"];
+
+#[test]
+fn every_kind_of_unplaced_row_is_met_in_labelling() {
+    assert_kinds::<LabelCase>(
+        |case, outcome| case.unplaced_kinds(&outcome.labels, outcome.answer.unwrap()),
+        &[
+            "a NaN centroid",
+            "unplaced rows beside family 0",
+            "all rows unplaced",
+        ],
+    );
+    assert_kinds::<PlaceCase>(
+        |case, outcome| case.unplaced_kinds(outcome),
+        &["a NaN centroid", "unplaced rows beside a distance of 0"],
+    );
+}
+
+#[test]
+fn every_kind_of_unplaced_row_is_met_in_kmeans_and_grouping() {
+    assert_kinds::<KMeansCase>(
+        |case, outcome| case.unplaced_kinds(outcome.answer.unwrap().2),
+        &["unplaced rows"],
+    );
+    assert_kinds::<RestartsCase>(
+        |case, outcome| case.0.unplaced_kinds(outcome.answer.unwrap().2),
+        &[
+            "fewer unplaced than in the last restart",
+            "more unplaced than in the last restart",
+        ],
+    );
+    assert_kinds::<GroupingCase>(
+        |case, outcome| case.unplaced_kinds(&outcome.answer.unwrap()),
+        &[
+            "unplaced rows",
+            "one NaN row, several splits and more than one unplaced",
+            "more unplaced than there are rows",
+        ],
+    );
+}
+
 fn objective_of(case: &KMeansCase) -> (f64, u32) {
-    let (bits, restart) = case.run().answer.unwrap();
+    let (bits, restart, _) = case.run().answer.unwrap();
     (f64::from_bits(bits), restart)
 }
 
@@ -206,7 +304,7 @@ fn a_later_nan_objective_beats_nothing() {
 fn later_restarts_are_kept_and_ties_keep_the_first() {
     let mut later = 0;
     for case in all::<KMeansCase>() {
-        if let Ok((_, restart)) = case.run().answer {
+        if let Ok((_, restart, _)) = case.run().answer {
             later += u32::from(restart > 0);
         }
     }

@@ -1,7 +1,7 @@
 //! The bench examples of document 01, P1 to P12 and "Run".
 
 use oracle::batch::listing;
-use oracle::calls::{closure, closure_bytes, kmeans, label_bytes, labelling};
+use oracle::calls::{closure, closure_bytes, kmeans, label_bytes, labelling, placing};
 use oracle::calls::{GroupingAccepted, KMeansLent, KMeansNumbers};
 use oracle::cases::{file_of, Case, GroupingCase};
 use oracle::clustering::{HierarchicalClustering, Member};
@@ -75,6 +75,7 @@ fn p1_result_cells() {
     let accepted = GroupingAccepted {
         groups: 2,
         splits: 1,
+        unplaced: 0,
     };
     assert_eq!(outcome.answer, Ok(accepted));
     assert_eq!(outcome.order, [2, 3, 0, 1]);
@@ -116,6 +117,20 @@ fn p5_p6_p7_labels() {
     assert_eq!(label_of(f32::NAN, &[1.0, 2.0]), 0);
 }
 
+/// Request (ii) of document 02: the distance, infinity where nothing is found, and how many rows that is so for.
+#[test]
+fn p5_p6_p7_placements() {
+    let place = |value: f32, centroids: &[f32]| {
+        let (mut label, mut distance) = ([9], [9.0]);
+        let k = centroids.len() as u32;
+        let unplaced = placing(1, 1, k, &[value], centroids, &mut label, &mut distance);
+        (unplaced, label[0], distance[0])
+    };
+    assert_eq!(place(1.0, &[1.0, 1.0]), (Ok(0), 0, 0.0));
+    assert_eq!(place(2.5, &[f32::NAN, 2.0]), (Ok(0), 1, 0.25));
+    assert_eq!(place(f32::NAN, &[1.0, 2.0]), (Ok(1), 0, f32::INFINITY));
+}
+
 #[test]
 fn p8_p9_closure() {
     assert_eq!(closure_of(0.0, 3), [1, 2]);
@@ -153,6 +168,7 @@ fn p10_kmeans_of_two() {
     };
     let accepted = kmeans(&numbers, &[0.0, 1.0], &[0], true, lent).unwrap();
     assert_eq!((accepted.objective, accepted.restart), (0.5, 0));
+    assert_eq!(accepted.unplaced, 0);
     assert_eq!((labels, centroids), ([0, 0], [0.5]));
 }
 

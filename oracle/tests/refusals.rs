@@ -4,7 +4,7 @@ use oracle::batch::listing;
 use oracle::calls::*;
 use oracle::cases::{file_of, Case};
 use oracle::cases::{ClosureBytesCase, ClosureCase, GroupingCase, KMeansCase, LabelBytesCase};
-use oracle::cases::{LabelCase, STALE_BYTE};
+use oracle::cases::{LabelCase, PlaceCase, STALE_BYTE};
 
 const FAR: [u32; 3] = [65_536, 1 << 31, u32::MAX];
 
@@ -38,6 +38,10 @@ fn label_case() -> LabelCase {
         centroids: vec![0.0; 4],
         label_cells: 3,
     }
+}
+
+fn place_case() -> PlaceCase {
+    PlaceCase::from(label_case())
 }
 
 fn kmeans_case() -> KMeansCase {
@@ -97,6 +101,7 @@ fn closure_bytes_case() -> ClosureBytesCase {
 #[test]
 fn base_cases_are_accepted() {
     assert_eq!(number_of(&label_case()), 0);
+    assert_eq!(number_of(&place_case()), 0);
     assert_eq!(number_of(&kmeans_case()), 0);
     assert_eq!(number_of(&grouping_case()), 0);
     assert_eq!(number_of(&closure_case()), 0);
@@ -110,6 +115,10 @@ fn refusal_1_labelling() {
     try_range(&base, ROWS, |case, n| case.rows = n);
     try_range(&base, DIM, |case, n| case.dim = n);
     try_range(&base, K, |case, n| case.k = n);
+    let base = place_case();
+    try_range(&base, ROWS, |case, n| case.labelling.rows = n);
+    try_range(&base, DIM, |case, n| case.labelling.dim = n);
+    try_range(&base, K, |case, n| case.labelling.k = n);
 }
 
 #[test]
@@ -190,6 +199,17 @@ fn refusal_2_labelling_and_closure() {
             &|case| case.centroids.clear(),
             &|case| case.label_cells += 1,
             &|case| case.label_cells = 0,
+        ],
+    );
+    try_lengths(
+        &place_case(),
+        &[
+            &|case| case.labelling.values.push(0.0),
+            &|case| case.labelling.centroids.clear(),
+            &|case| case.labelling.label_cells += 1,
+            &|case| case.distance_cells += 1,
+            &|case| case.distance_cells -= 1,
+            &|case| case.distance_cells = 0,
         ],
     );
     try_lengths(
@@ -413,6 +433,12 @@ fn wrong_lengths_are_blanked_too() {
     let outcome = case.run();
     assert_eq!(outcome.labels, [65_535; 7]);
     assert_eq!(outcome.centroids, [0; 9]);
+
+    let mut case = place_case();
+    (case.labelling.label_cells, case.distance_cells) = (2, 7);
+    let outcome = case.run();
+    assert_eq!(outcome.labels, [65_535; 2]);
+    assert_eq!(outcome.distances, [0; 7]);
 
     let mut case = grouping_case();
     (case.order_cells, case.end_cells, case.mean_cells) = (1, 5, 11);

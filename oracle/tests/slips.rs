@@ -1,4 +1,4 @@
-//! The generated cases tell each slip of document 01 apart from the oracle.
+//! The generated cases tell each slip of documents 01 and 02 apart from the oracle.
 
 const SEED: u64 = 20_260_226;
 const CASES: u64 = 1_500;
@@ -78,6 +78,36 @@ fn the_same_draws_on_every_pass() {
     assert_told_apart!(same_each_pass, GroupingCase);
 }
 
+#[test]
+fn label_0_counted_as_unplaced() {
+    assert_told_apart!(zero_is_unplaced, LabelCase);
+    assert_told_apart!(zero_is_unplaced, PlaceCase);
+    assert_told_apart!(zero_is_unplaced, KMeansCase);
+    assert_told_apart!(zero_is_unplaced, GroupingCase);
+}
+
+#[test]
+fn a_distance_of_zero_for_an_unplaced_row() {
+    assert_told_apart!(unplaced_at_zero, PlaceCase);
+}
+
+#[test]
+fn the_last_restarts_count() {
+    assert_told_apart!(last_restarts_count, RestartsCase);
+}
+
+#[test]
+fn training_rows_counted_as_unplaced() {
+    assert_told_apart!(training_counted, KMeansCase);
+    assert_told_apart!(training_counted, RestartsCase);
+    assert_told_apart!(training_counted, GroupingCase);
+}
+
+#[test]
+fn one_splits_count_left_out() {
+    assert_told_apart!(first_split_uncounted, GroupingCase);
+}
+
 /// Request (i) of document 02: what document 01's rule refused by 7 is parted on a later pass.
 #[test]
 fn a_stubborn_batch_under_both_rules() {
@@ -101,5 +131,9 @@ fn a_stubborn_batch_under_both_rules() {
 #[test]
 fn a_slip_changes_only_its_own_place() {
     assert_same!(LabelCase: widening_first, inverse_mean, balance_toward_mean, first_come, equal_later_row, same_each_pass);
-    assert_same!(KMeansCase: inverse_mean, balance_toward_mean, first_come);
+    assert_same!(KMeansCase: inverse_mean, balance_toward_mean, first_come, first_split_uncounted);
+    assert_same!(LabelCase: unplaced_at_zero, last_restarts_count, training_counted, first_split_uncounted);
+    assert_same!(PlaceCase: last_restarts_count, training_counted, first_split_uncounted);
+    // A count is no label, centroid, group or listing.
+    assert_same!(BatchCase: zero_is_unplaced, last_restarts_count, training_counted, first_split_uncounted);
 }

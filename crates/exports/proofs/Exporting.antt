@@ -1,6 +1,6 @@
 -- The exported functions: refusals 1 and 2, cells as bytes, and from an answer to its number and bytes. Assumes nothing.
 use Prim.Native.Nat.{ℕ, zero, suc, _+_, _*_, _/_, _%_, _≤_, _<_}
-use mathlib.Core.Path.{_≡_, refl, sym, ap, _∙_}
+use mathlib.Core.Path.{_≡_, refl, ap, _∙_}
 use mathlib.Core.List.{List, [], _∷_, _++_, flatMap, flatten, append-assoc}
 use native.Mathlib.Numerals.{add-one}
 use native.Mathlib.Omega.{arith}
@@ -12,7 +12,8 @@ use Rattle.sums.specs.Rows.{Row, rowsFrom}
 use Rattle.sums.specs.Refusals.{Answer, accepted, refused, lowestFrom, unless, onAccepted, padded, cellsOf, blankCell}
 use Rattle.words.specs.Bytes.{floatsFrom, bytes16}
 use Rattle.words.proofs.ByteLaws.{floats-length}
-use Rattle.labels.specs.Label.{nearest, nearests}
+use Rattle.labels.specs.declared.nearest.Placement.{Placement}
+use Rattle.labels.specs.Label.{nearest, nearests, labelIn, unplacedOf}
 use Rattle.labels.specs.Call.{labelRefusal as rowsRefusal, labelCall as rowsCall, told, Gives as Labels}
 use Rattle.labels.specs.declared.call.LabelAnswer.{LabelAnswer}
 use Rattle.sums.proofs.Refusing.{both, within-is, passed}
@@ -63,9 +64,10 @@ module _ {A B : Type 0} (f : A → B) where
   same-figure blank figure (accepted a) t e = ap (figureOf blank figure) e
   same-figure blank figure (refused number) t e = ap (figureOf blank figure) e
 
--- a labelling call's number, from the answer that it was told
-pub code-told : (answer : Answer (List ℕ)) (n : ℕ) (r r′ : LabelAnswer) (cells : List ℕ) → Labels answer n r cells → r ≡ r′ → codeOf (told r′) ≡ codeOf answer
-code-told answer n r r′ cells g e = ap (λ (x : LabelAnswer). codeOf (told x)) (sym e) ∙ same-code _ answer _ (g .result)
+-- a labelling call's number and its unplaced rows, from the answer that it was told
+pub label-gave : (answer : Answer (List Placement)) (n : ℕ) (r : LabelAnswer) (cells : List ℕ) (number unplaced : ℕ) → Labels answer n r cells → number ≡ codeOf (told r)
+    → unplaced ≡ figureOf 0 (λ (m : ℕ). m) (told r) → (number ≡ codeOf answer) × (unplaced ≡ figureOf 0 unplacedOf answer)
+label-gave answer n r cells number unplaced g c f = (c ∙ same-code unplacedOf answer _ (g .result), f ∙ same-figure unplacedOf 0 (λ (m : ℕ). m) answer _ (g .result))
 
 pub gave-refused : {A : Type 0} (written : A → List ℕ) (len n : ℕ) (result : List ℕ) → result ≡ replicate len 255 → Gave (refused n) len written n result
 unfolding codeOf figureOf
@@ -171,54 +173,60 @@ module _ (dim k : ℕ) (row centroids : List ℕ) (result : ℕ) where
 
 -- labelling of one row alone, inside the ranges
 one-row : (dim k : ℕ) (row centroids : List Float) (r : LabelAnswer) (cells : List ℕ) → 0 < dim → dim ≤ 64 → 0 < k → k ≤ 64
-    → length row ≡ dim → length centroids ≡ k * dim → Labels (rowsCall 1 dim k row centroids 1) 1 r cells
-    → getD cells 0 0 ≡ nearest (rowsFrom dim k centroids) row .label
+    → length row ≡ dim → length centroids ≡ k * dim → Labels (rowsCall 1 dim k row centroids 1 1) 1 r cells
+    → getD cells 0 0 ≡ labelIn (nearest (rowsFrom dim k centroids) row)
 unfolding rowsRefusal rowsCall lowestFrom unless cellsOf padded nearests rowsFrom
 one-row dim k row centroids r cells some small one few a b g =
     let wide : length row ≡ 1 * dim = omega arith in
-    let on : rowsRefusal 1 dim k (length row) (length centroids) 1 ≡ 0
+    let on : rowsRefusal 1 dim k (length row) (length centroids) 1 1 ≡ 0
     = simp (le-leb 1 dim some, le-leb dim 64 small, le-leb 1 k one, le-leb k 64 few, eq-eqb (length row) (1 * dim) wide, eq-eqb (length centroids) (k * dim) b) in
-    let is : cells ≡ nearest (rowsFrom dim k centroids) (take dim row) .label ∷ [] = rw on at (g .labels) in
+    let is : cells ≡ labelIn (nearest (rowsFrom dim k centroids) (take dim row)) ∷ [] = rw on at (g .labels) in
     rw (is, take-all dim row (omega arith))
 
 pub one-label : (dim k : ℕ) (row centroids : List ℕ) (r : LabelAnswer) (cells : List ℕ) → 0 < dim → dim ≤ 64 → 0 < k → k ≤ 64
-    → Labels (rowsCall 1 dim k (floatsFrom dim row) (floatsFrom (k * dim) centroids) 1) 1 r cells → getD cells 0 0 ≡ labelOf dim k row centroids
+    → Labels (rowsCall 1 dim k (floatsFrom dim row) (floatsFrom (k * dim) centroids) 1 1) 1 r cells → getD cells 0 0 ≡ labelOf dim k row centroids
 unfolding labelOf
 one-label dim k row centroids r cells some small one few g =
     one-row dim k (floatsFrom dim row) (floatsFrom (k * dim) centroids) r cells some small one few (floats-length dim row) (floats-length (k * dim) centroids) g
 
 -- ---- k-means: from the enum to the number and the figures
-abbrev pub KMeansGave : Answer Result → ℕ → ℕ → ℕ → List ℕ → List Float → Float → ℕ → Type 0
-KMeansGave answer labelCells centroidCells r labels centroids objective restart =
+abbrev pub KMeansGave : Answer Result → ℕ → ℕ → ℕ → List ℕ → List Float → Float → ℕ → ℕ → Type 0
+KMeansGave answer labelCells centroidCells r labels centroids objective restart unplaced =
     (r ≡ codeOf answer)
     × ((labels ≡ cellsOf blankCell labelCells (λ (a : Result). a .labels) answer)
     × ((centroids ≡ cellsOf zero32 centroidCells (λ (a : Result). flatten (a .centroids)) answer)
-    × ((objective ≡ figureOf zero32 (λ (a : Result). a .objective) answer) × (restart ≡ figureOf 0 (λ (a : Result). a .restart) answer))))
+    × ((objective ≡ figureOf zero32 (λ (a : Result). a .objective) answer)
+    × ((restart ≡ figureOf 0 (λ (a : Result). a .restart) answer) × (unplaced ≡ figureOf 0 (λ (a : Result). a .unplaced) answer)))))
 
-pub kmeans-gave : (labelCells centroidCells : ℕ) (r : KMeansAnswer) (labels : List ℕ) (centroids : List Float) (answer : Answer Result) (number : ℕ) (o : Float) (n : ℕ)
+pub kmeans-gave : (labelCells centroidCells : ℕ) (r : KMeansAnswer) (labels : List ℕ) (centroids : List Float) (answer : Answer Result) (number : ℕ) (o : Float) (n u : ℕ)
     → KMeansGives answer labelCells centroidCells r labels centroids → number ≡ codeOf (kmeansTold r)
-    → (o ≡ figureOf zero32 (λ (f : Float × ℕ). f .0) (kmeansTold r)) × (n ≡ figureOf 0 (λ (f : Float × ℕ). f .1) (kmeansTold r))
-    → KMeansGave answer labelCells centroidCells number labels centroids o n
-kmeans-gave labelCells centroidCells r labels centroids answer number o n g c f =
-    let figures : Result → Float × ℕ = λ a. (a .objective, a .restart) in
-    let objective = f .0 ∙ same-figure figures zero32 (λ (p : Float × ℕ). p .0) answer _ (g .result) in
-    let restart = f .1 ∙ same-figure figures 0 (λ (p : Float × ℕ). p .1) answer _ (g .result) in
-    (c ∙ same-code figures answer _ (g .result), (g .labelled, (g .centred, (objective, restart))))
+    → (o ≡ figureOf zero32 (λ (f : Float × ℕ × ℕ). f .0) (kmeansTold r))
+    × ((n ≡ figureOf 0 (λ (f : Float × ℕ × ℕ). f .1) (kmeansTold r)) × (u ≡ figureOf 0 (λ (f : Float × ℕ × ℕ). f .2) (kmeansTold r)))
+    → KMeansGave answer labelCells centroidCells number labels centroids o n u
+kmeans-gave labelCells centroidCells r labels centroids answer number o n u g c f =
+    let figures : Result → Float × ℕ × ℕ = λ a. (a .objective, a .restart, a .unplaced) in
+    let objective = f .0 ∙ same-figure figures zero32 (λ (p : Float × ℕ × ℕ). p .0) answer _ (g .result) in
+    let restart = f .1 .0 ∙ same-figure figures 0 (λ (p : Float × ℕ × ℕ). p .1) answer _ (g .result) in
+    let unplaced = f .1 .1 ∙ same-figure figures 0 (λ (p : Float × ℕ × ℕ). p .2) answer _ (g .result) in
+    (c ∙ same-code figures answer _ (g .result), (g .labelled, (g .centred, (objective, (restart, unplaced)))))
 
 -- ---- grouping: from the enum to the number and the counts
-abbrev pub GroupGave : Answer Groups → ℕ → List Row → ℕ → ℕ → ℕ → ℕ → List ℕ → List ℕ → List Float → ℕ → ℕ → Type 0
-GroupGave answer dim rows orderCells endCells meanCells r order ends means groups splits =
+abbrev pub GroupGave : Answer Groups → ℕ → List Row → ℕ → ℕ → ℕ → ℕ → List ℕ → List ℕ → List Float → ℕ → ℕ → ℕ → Type 0
+GroupGave answer dim rows orderCells endCells meanCells r order ends means groups splits unplaced =
     (r ≡ codeOf answer)
     × ((order ≡ cellsOf blankCell orderCells (λ (g : Groups). flatten (g .groups)) answer)
     × ((ends ≡ cellsOf blankCell endCells (λ (g : Groups). endsFrom 0 (g .groups)) answer)
     × ((means ≡ cellsOf zero32 meanCells (λ (g : Groups). flatMap (meanOf dim rows) (g .groups)) answer)
-    × ((groups ≡ figureOf 0 (λ (g : Groups). length (g .groups)) answer) × (splits ≡ figureOf 0 (λ (g : Groups). g .splits) answer)))))
+    × ((groups ≡ figureOf 0 (λ (g : Groups). length (g .groups)) answer) × ((splits ≡ figureOf 0 (λ (g : Groups). g .splits) answer)
+    × (unplaced ≡ figureOf 0 (λ (g : Groups). g .unplaced) answer))))))
 
-pub group-gave : (dim : ℕ) (rows : List Row) (orderCells endCells meanCells : ℕ) (r : GroupingAnswer) (order ends : List ℕ) (means : List Float) (answer : Answer Groups) (number n m : ℕ)
+pub group-gave : (dim : ℕ) (rows : List Row) (orderCells endCells meanCells : ℕ) (r : GroupingAnswer) (order ends : List ℕ) (means : List Float) (answer : Answer Groups) (number n m u : ℕ)
     → GroupGives answer dim rows orderCells endCells meanCells r order ends means → number ≡ codeOf (groupsTold r)
-    → (n ≡ figureOf 0 (λ (f : ℕ × ℕ). f .0) (groupsTold r)) × (m ≡ figureOf 0 (λ (f : ℕ × ℕ). f .1) (groupsTold r))
-    → GroupGave answer dim rows orderCells endCells meanCells number order ends means n m
-group-gave dim rows orderCells endCells meanCells r order ends means answer number n m g c f =
-    let groups = f .0 ∙ same-figure figures 0 (λ (p : ℕ × ℕ). p .0) answer _ (g .result) in
-    let splits = f .1 ∙ same-figure figures 0 (λ (p : ℕ × ℕ). p .1) answer _ (g .result) in
-    (c ∙ same-code figures answer _ (g .result), (g .ordered, (g .ended, (g .meant, (groups, splits)))))
+    → (n ≡ figureOf 0 (λ (f : ℕ × ℕ × ℕ). f .0) (groupsTold r))
+    × ((m ≡ figureOf 0 (λ (f : ℕ × ℕ × ℕ). f .1) (groupsTold r)) × (u ≡ figureOf 0 (λ (f : ℕ × ℕ × ℕ). f .2) (groupsTold r)))
+    → GroupGave answer dim rows orderCells endCells meanCells number order ends means n m u
+group-gave dim rows orderCells endCells meanCells r order ends means answer number n m u g c f =
+    let groups = f .0 ∙ same-figure figures 0 (λ (p : ℕ × ℕ × ℕ). p .0) answer _ (g .result) in
+    let splits = f .1 .0 ∙ same-figure figures 0 (λ (p : ℕ × ℕ × ℕ). p .1) answer _ (g .result) in
+    let unplaced = f .1 .1 ∙ same-figure figures 0 (λ (p : ℕ × ℕ × ℕ). p .2) answer _ (g .result) in
+    (c ∙ same-code figures answer _ (g .result), (g .ordered, (g .ended, (g .meant, (groups, (splits, unplaced))))))

@@ -12,8 +12,11 @@ use lib.Ieee.{Float}
 use lib.ListN.{length}
 use Rattle.sums.specs.Refusals.{Answer, accepted, refused, within}
 use Rattle.sums.proofs.Whens.{not-both, fails-exactly, later-exactly, accepted-exactly, refused-by, one-or-two}
+use Rattle.sums.specs.Rows.{rowsFrom}
 use Rattle.words.specs.Bytes.{floatsFrom}
 use Rattle.words.proofs.ByteLaws.{floats-length}
+use Rattle.labels.specs.Label.{search}
+use Rattle.labels.proofs.Places.{nearest-label}
 use Rattle.closure.specs.Call.{closureCall}
 use Rattle.closure.proofs.Promises as closure
 use Rattle.exports.specs.Exports.{codeOf, Gave, labelRefusal, labelOf, labelCall, closureRefusal, closureBytesCall}
@@ -69,6 +72,11 @@ module _ (dim k : ℕ) (row centroids : List ℕ) (result : ℕ) where
   label-accepted =
       let w = accepted-exactly (label-ranges ∷ label-bytes ∷ []) (accepted label) label in
       ((λ c. let t = w .0 c .0 in (t .0, t .1 .0)), (λ t. w .1 ((t .0, (t .1, tt)), refl)))
+
+  -- The label is the one at which the row's search ends, placed or not, as before an answer said which.
+  pub label-before : label ≡ search (rowsFrom dim k (floatsFrom (k * dim) centroids)) (floatsFrom dim row) .label
+  unfolding labelOf
+  label-before = nearest-label (rowsFrom dim k (floatsFrom (k * dim) centroids)) (floatsFrom dim row)
 
   -- No other number refuses it.
   pub label-otherwise : (number : ℕ) → labelled ≡ refused number → (number ≡ 1) ⊎ (number ≡ 2)

@@ -9,7 +9,7 @@ use lib.Ieee.{Float}
 use Rattle.sums.specs.Rows.{rowsFrom}
 use Rattle.sums.specs.Refusals.{Answer, accepted, refused, within, lowest, unless, padded, blankCell}
 use Rattle.words.specs.Bytes.{floatsFrom, bytes16}
-use Rattle.labels.specs.Label.{nearest}
+use Rattle.labels.specs.Label.{nearest, labelIn}
 use Rattle.closure.specs.Call.{closureCall}
 use Rattle.kmeans.specs.declared.config.KMeansConfig.{KMeansConfig}
 use Rattle.grouping.specs.Groups.{Groups}
@@ -35,9 +35,9 @@ unfoldable pub labelRefusal : ℕ → ℕ → ℕ → ℕ → ℕ → ℕ
 labelRefusal dim k row centroids result =
     lowest ((within 1 64 dim && within 1 64 k) ∷ (eqb row (dim * 4) && eqb centroids (k * dim * 4) && eqb result 2) ∷ [])
 
--- the label by the row and the centroids that the bytes hold
+-- the label by the row and the centroids that the bytes hold; an unplaced row's is 0 here as ever (02 (ii))
 unfoldable pub labelOf : ℕ → ℕ → List ℕ → List ℕ → ℕ
-labelOf dim k row centroids = nearest (rowsFrom dim k (floatsFrom (k * dim) centroids)) (floatsFrom dim row) .label
+labelOf dim k row centroids = labelIn (nearest (rowsFrom dim k (floatsFrom (k * dim) centroids)) (floatsFrom dim row))
 
 -- the whole call: the label, or the refusal's number
 unfoldable pub labelCall : ℕ → ℕ → List ℕ → List ℕ → ℕ → Answer ℕ

@@ -20,7 +20,7 @@ pub grouped-at : {answer : Answer Groups} {n : ℕ} {r : GroupingAnswer} {order 
 grouped-at m e g = rw e g
 
 -- the acceptance that the code's answer tells of, and its groups as they stand in the row order and the ends
-pub record Taken (answer : Answer Groups) (n groups splits : ℕ) (order ends : List ℕ) : Type 0 where
+pub record Taken (answer : Answer Groups) (n groups splits unplaced : ℕ) (order ends : List ℕ) : Type 0 where
   pub g : Groups
   pub is : answer ≡ accepted g
   pub many : length (g .groups) ≡ groups
@@ -30,13 +30,14 @@ pub record Taken (answer : Answer Groups) (n groups splits : ℕ) (order ends : 
   pub below : Below n order
   pub fits : groups ≤ n
 
-pub taken : (answer : Answer Groups) (n groups splits : ℕ) (order ends : List ℕ) → Grouped answer n (Accepted groups splits) order ends → Taken answer n groups splits order ends
+pub taken : (answer : Answer Groups) (n groups splits unplaced : ℕ) (order ends : List ℕ) → Grouped answer n (Accepted groups splits unplaced) order ends
+    → Taken answer n groups splits unplaced order ends
 unfolding onAccepted
-taken (accepted g) n groups splits order ends h =
+taken (accepted g) n groups splits unplaced order ends h =
     let gs = g .groups in
     let l = h .listed g refl in
-    let z : _≡_ {A = ℕ × ℕ} (groups, splits) (figures g) = let r = h .result in cc in
-    let m : groups ≡ length gs = ap (λ (f : ℕ × ℕ). f .0) z in
+    let z : _≡_ {A = ℕ × ℕ × ℕ} (groups, splits, unplaced) (figures g) = let r = h .result in cc in
+    let m : groups ≡ length gs = ap (λ (f : ℕ × ℕ × ℕ). f .0) z in
     let w : n ≡ length (endsFrom 0 gs) + (n - length gs) = omega (arith, l .1 .1 .1, ends-length 0 gs) in
     record {
       g = g;
@@ -48,12 +49,12 @@ taken (accepted g) n groups splits order ends h =
       below = l .1 .1 .0;
       fits = omega (arith, m, l .1 .1 .1);
     }
-taken (refused number) n groups splits order ends h =
+taken (refused number) n groups splits unplaced order ends h =
     let r = h .result in
     let z : _≡_ {A = ℕ} 0 1 = cc in
     absurd (omega arith)
 
-pub cut : {answer : Answer Groups} {groups splits : ℕ} {order ends : List ℕ} → Taken answer (length order) groups splits order ends
+pub cut : {answer : Answer Groups} {groups splits unplaced : ℕ} {order ends : List ℕ} → Taken answer (length order) groups splits unplaced order ends
     → Below (length order) order × ((i : ℕ) → i < groups → (getD (0 ∷ ends) i 0 ≤ getD ends i 0) × (getD ends i 0 ≤ length order))
 cut {groups = groups} {order = order} {ends = ends} t =
     let gs = t .g .groups in (

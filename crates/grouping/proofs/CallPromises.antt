@@ -1,9 +1,11 @@
--- What a grouping call promises: which number refuses it and when, the rows it lists, and what a budget can change. Assumes nothing.
+-- What a grouping call promises: which number refuses it and when, the rows it lists, how many it counts unplaced, and what a budget can change.
+-- Assumes nothing.
 use mathlib.Core.Path.{_≡_, refl, sym, _∙_}
 use mathlib.Core.Logic.{_↔_, inl, inr}
 use mathlib.Core.Bool.{Bool, true, false, _&&_, false≢true}
 use mathlib.Core.List.{List, [], _∷_}
-use Prim.Native.Nat.{ℕ, zero, suc, _≤_, _<_}
+use Prim.Native.Nat.{ℕ, zero, suc, _*_, _≤_, _<_}
+use native.Mathlib.Nat.{mul-le-mul}
 use native.Mathlib.Omega.{arith}
 use borrow.Author.Tests.{le-leb}
 use lib.Ieee.{Float}
@@ -11,12 +13,13 @@ use lib.ListN.{length}
 use Rattle.sums.specs.Tables.{upTo}
 use Rattle.sums.specs.Rows.{rowsFrom}
 use Rattle.sums.proofs.Rows.{rows-length}
-use Rattle.sums.specs.Refusals.{Answer, accepted, refused, within, unless}
+use Rattle.sums.specs.Refusals.{Answer, accepted, refused, within, unless, onAccepted}
 use Rattle.sums.proofs.Refusing.{both, passed, lowest-none, lowest-when, lowest-most, lowest-only}
 use Rattle.grouping.specs.declared.config.GroupingConfig.{GroupingConfig}
-use Rattle.grouping.specs.Groups.{Rule, ruleOf, Groups, partsOf, madeBy, waits, grouping, groupFrom}
+use Rattle.grouping.specs.Groups.{Rule, ruleOf, Groups, partsOf, madeBy, lostBy, waits, grouping, groupFrom}
 use Rattle.grouping.specs.Call.{rangesFit, lengthsFit, groupingRefusal, groupingCall}
-use Rattle.grouping.proofs.GroupPromises.{Listing, Passes, Small, Spent, Done, six-when, six-only, seven-when, seven-only, accepted-when, accepted-only, Ends, splits-only, splits-when, only-six-or-seven, budget-accepted, budget-six, accepted-listing}
+use Rattle.grouping.proofs.GroupPromises.{Listing, Passes, Comes, Small, Spent, Done, six-when, six-only, seven-when, seven-only, accepted-when, accepted-only, Ends, splits-only, splits-when, only-six-or-seven, budget-accepted, budget-six, one-long, accepted-listing, accepted-unplaced, listedOf, lost-aside, lostOn, unplaced-summed}
+use Rattle.grouping.proofs.Splits.{lost-few}
 use Rattle.grouping.proofs.Calls.{Ranged, ranged}
 use Rattle.grouping.proofs.SplitPromises.{start, parts-kept, Splits, SplitPromise, each-split}
 
@@ -99,7 +102,7 @@ module _ (rows dim : ℕ) (config : GroupingConfig) (drawn : List ℕ) (values :
   early number h c = go refusal refl
     where
       go : (n : ℕ) → refusal ≡ n → refusal ≡ number
-      go zero e = elim (only-six-or-seven (partsOf rule) (madeBy rule) (config .limit) (config .branching) (config .budget) 0 number (start rule) (sym (call-passed e) ∙ c)) [
+      go zero e = elim (only-six-or-seven (partsOf rule) (madeBy rule) (config .limit) (config .branching) (lostBy rule) (config .budget) 0 number (start rule) (sym (call-passed e) ∙ c)) [
         | inl z ↦ absurd (omega arith)
         | inr z ↦ absurd (omega arith)
       ]
@@ -143,26 +146,26 @@ module _ (rows dim : ℕ) (config : GroupingConfig) (drawn : List ℕ) (values :
   -- Refused by 6 exactly when it comes to an oversize group that has fewer rows than branching.
   pub refused-six : (call ≡ refused 6) ↔ (Passed × MeetsSmall)
   refused-six = (
-    (λ c. let e = late 6 (omega arith) c in (e, six-only (partsOf rule) (madeBy rule) (config .limit) (config .branching) (config .budget) 0 (start rule) (sym (call-passed e) ∙ c))),
-    (λ t. call-passed (t .0) ∙ six-when (partsOf rule) (madeBy rule) (config .limit) (config .branching) (config .budget) 0 (start rule) (t .1)),
+    (λ c. let e = late 6 (omega arith) c in (e, six-only (partsOf rule) (madeBy rule) (config .limit) (config .branching) (lostBy rule) (config .budget) 0 (start rule) (sym (call-passed e) ∙ c))),
+    (λ t. call-passed (t .0) ∙ six-when (partsOf rule) (madeBy rule) (config .limit) (config .branching) (lostBy rule) (config .budget) 0 (start rule) (t .1)),
   )
 
   -- Refused by 7 exactly when it comes to an oversize group that has no fewer, and the splits done equal the budget.
   pub refused-seven : (call ≡ refused 7) ↔ (Passed × MeetsSpent)
   refused-seven = (
-    (λ c. let e = late 7 (omega arith) c in (e, seven-only (partsOf rule) (madeBy rule) (config .limit) (config .branching) (config .budget) 0 (start rule) (sym (call-passed e) ∙ c))),
-    (λ t. call-passed (t .0) ∙ seven-when (partsOf rule) (madeBy rule) (config .limit) (config .branching) (config .budget) 0 (start rule) (t .1)),
+    (λ c. let e = late 7 (omega arith) c in (e, seven-only (partsOf rule) (madeBy rule) (config .limit) (config .branching) (lostBy rule) (config .budget) 0 (start rule) (sym (call-passed e) ∙ c))),
+    (λ t. call-passed (t .0) ∙ seven-when (partsOf rule) (madeBy rule) (config .limit) (config .branching) (lostBy rule) (config .budget) 0 (start rule) (t .1)),
   )
 
   -- Accepted exactly when it comes to where no group waits.
   pub accepted-exactly : Passes call ↔ (Passed × MeetsEnd)
   accepted-exactly = (
     (λ p. to refusal refl p),
-    (λ t. rw (call-passed (t .0)) (accepted-when (partsOf rule) (madeBy rule) (config .limit) (config .branching) (config .budget) 0 (start rule) (t .1))),
+    (λ t. rw (call-passed (t .0)) (accepted-when (partsOf rule) (madeBy rule) (config .limit) (config .branching) (lostBy rule) (config .budget) 0 (start rule) (t .1))),
   )
     where
       done : (a : Answer Groups) → grouping rule (config .limit) (config .budget) ≡ a → Passes a → MeetsEnd
-      done (accepted g) e p = accepted-only (partsOf rule) (madeBy rule) (config .limit) (config .branching) (config .budget) 0 (start rule) g e
+      done (accepted g) e p = accepted-only (partsOf rule) (madeBy rule) (config .limit) (config .branching) (lostBy rule) (config .budget) 0 (start rule) g e
       done (refused number) e p = absurd p
 
       to : (n : ℕ) → refusal ≡ n → Passes call → Passed × MeetsEnd
@@ -178,9 +181,9 @@ module _ (rows dim : ℕ) (config : GroupingConfig) (drawn : List ℕ) (values :
   accepted-splits s = (
     (λ t.
         let e = accepted-exactly .0 (rw (t .1 .0) tt) .0 in
-        (e, rw (t .1 .1) at (splits-only (partsOf rule) (madeBy rule) (config .limit) (config .branching) (config .budget) 0 (start rule) (t .0) (sym (call-passed e) ∙ t .1 .0)))),
+        (e, rw (t .1 .1) at (splits-only (partsOf rule) (madeBy rule) (config .limit) (config .branching) (lostBy rule) (config .budget) 0 (start rule) (t .0) (sym (call-passed e) ∙ t .1 .0)))),
     (λ t.
-        let w = splits-when (partsOf rule) (madeBy rule) (config .limit) (config .branching) (config .budget) 0 (start rule) s (t .1) in
+        let w = splits-when (partsOf rule) (madeBy rule) (config .limit) (config .branching) (lostBy rule) (config .budget) 0 (start rule) s (t .1) in
         (w .0, (call-passed (t .0) ∙ w .1 .0, w .1 .1))),
   )
 
@@ -190,7 +193,7 @@ module _ (rows dim : ℕ) (config : GroupingConfig) (drawn : List ℕ) (values :
   refused-otherwise number c = go refusal refl
     where
       late-number : refusal ≡ 0 → Number number
-      late-number e = elim (only-six-or-seven (partsOf rule) (madeBy rule) (config .limit) (config .branching) (config .budget) 0 number (start rule) (sym (call-passed e) ∙ c)) [
+      late-number e = elim (only-six-or-seven (partsOf rule) (madeBy rule) (config .limit) (config .branching) (lostBy rule) (config .budget) 0 number (start rule) (sym (call-passed e) ∙ c)) [
         | inl z ↦ rw z small
         | inr z ↦ rw z spent
       ]
@@ -224,8 +227,42 @@ module _ (rows dim : ℕ) (config : GroupingConfig) (drawn : List ℕ) (values :
   call-listing g c =
       let e = accepted-passed g c in
       let r = passed-ranged e in
-      let a : groupFrom (partsOf rule) (madeBy rule) (config .limit) (config .branching) (config .budget) 0 (waits (upTo rows) []) ≡ accepted g = rw sized at (sym (call-passed e) ∙ c) in
-      accepted-listing (partsOf rule) (madeBy rule) (config .limit) (config .branching) 4096 (λ n g k l. parts-kept rule n g (r .some) k l .0) (config .budget) rows g (r .few-rows) a
+      let a : groupFrom (partsOf rule) (madeBy rule) (lostBy rule) (config .limit) (config .branching) (config .budget) 0 (waits (upTo rows) []) ≡ accepted g = rw sized at (sym (call-passed e) ∙ c) in
+      accepted-listing (partsOf rule) (madeBy rule) (config .limit) (config .branching) (lostBy rule) 4096 (λ n g k l. parts-kept rule n g (r .some) k l .0) (config .budget) rows g (r .few-rows) a
+
+  -- The unplaced rows of an accepted call are those of the splits that it makes until no group waits, added up.
+  pub call-summed : {left′ n′ : ℕ} (c : Comes (partsOf rule) (madeBy rule) (config .limit) (config .branching) (config .budget) 0 (start rule) left′ n′ []) (g : Groups)
+      → call ≡ accepted g → g .unplaced ≡ lostOn (partsOf rule) (madeBy rule) (config .limit) (config .branching) (lostBy rule) c
+  call-summed c g a =
+      unplaced-summed (partsOf rule) (madeBy rule) (config .limit) (config .branching) (lostBy rule) c g (sym (call-passed (accepted-passed g a)) ∙ a)
+
+  -- The unplaced rows of an accepted call are at most its splits times its rows: with at most 8,192 splits of 4,096 rows their count never wraps at 32 bits.
+  pub call-unplaced : (g : Groups) → call ≡ accepted g → (g .unplaced ≤ g .splits * rows) × (g .unplaced ≤ 33554432)
+  call-unplaced g c =
+      let e = accepted-passed g c in
+      let r = passed-ranged e in
+      let a = sym (call-passed e) ∙ c in
+      let b = budget-accepted (partsOf rule) (madeBy rule) (config .limit) (config .branching) (lostBy rule) (config .budget) 0 (start rule) g a .0 in
+      let s : g .splits ≤ 8192 = omega (arith, b, r .few-splits) in
+      let most : g .unplaced ≤ g .splits * rows
+      = accepted-unplaced (partsOf rule) (madeBy rule) (config .limit) (config .branching) (lostBy rule) rows
+      (λ n g k l. parts-kept rule n g (r .some) k (omega (arith, l, r .few-rows)) .0) (lost-few rule)
+      (config .budget) 0 (start rule) g (omega (arith, one-long (length (rule .rows)), sized)) a in
+      (most, omega (arith, most, mul-le-mul {n₂ = 8192} {m₂ = 4096} s (r .few-rows)))
+
+  -- the call with no row counted, as it was before
+  abbrev pub uncounted : Answer Groups
+  uncounted = unless refusal (groupFrom (partsOf rule) (madeBy rule) (λ n g. 0) (config .limit) (config .branching) (config .budget) 0 (start rule))
+
+  -- Counting changes no group, no number of splits and no refusal of any call.
+  pub call-aside : onAccepted listedOf call ≡ onAccepted listedOf uncounted
+  unfolding groupingCall unless onAccepted
+  call-aside = go refusal
+    where
+      go : (number : ℕ) → onAccepted listedOf (unless number (grouping rule (config .limit) (config .budget)))
+          ≡ onAccepted listedOf (unless number (groupFrom (partsOf rule) (madeBy rule) (λ n g. 0) (config .limit) (config .branching) (config .budget) 0 (start rule)))
+      go zero = lost-aside (partsOf rule) (madeBy rule) (config .limit) (config .branching) (lostBy rule) (λ n g. 0) (config .budget) 0 (start rule)
+      go (suc number) = refl
 
   -- Every split of a call that none of 1 to 4 refuses keeps what is promised of a split, whether the call is accepted or not.
   pub call-splits : Passed → (n : ℕ) (g : List ℕ) → Splits rule (config .limit) (config .budget) n g → SplitPromise rule n g
@@ -257,7 +294,7 @@ module _ (rows dim : ℕ) (config : GroupingConfig) (drawn : List ℕ) (values :
       let e = accepted-passed rows dim (withBudget config budget) drawn values lent g a in
       let r = passed-ranged rows dim (withBudget config budget) drawn values lent e in
       let rule = rule rows dim config drawn values lent in
-      let s = budget-accepted (partsOf rule) (madeBy rule) (config .limit) (config .branching) budget 0 (start rule) g (sym (call-passed rows dim (withBudget config budget) drawn values lent e) ∙ a) in
+      let s = budget-accepted (partsOf rule) (madeBy rule) (config .limit) (config .branching) (lostBy rule) budget 0 (start rule) g (sym (call-passed rows dim (withBudget config budget) drawn values lent e) ∙ a) in
       record {
         within = s .0;
         same = λ c h k. call-passed rows dim (withBudget config c) drawn values lent (budget-passed budget c k e) ∙ s .1 .0 c h;
@@ -270,4 +307,4 @@ module _ (rows dim : ℕ) (config : GroupingConfig) (drawn : List ℕ) (values :
       let e = refused-six rows dim (withBudget config budget) drawn values lent .0 a .0 in
       let rule = rule rows dim config drawn values lent in
       call-passed rows dim (withBudget config c) drawn values lent (budget-passed budget c k e)
-      ∙ budget-six (partsOf rule) (madeBy rule) (config .limit) (config .branching) budget 0 (start rule) (sym (call-passed rows dim (withBudget config budget) drawn values lent e) ∙ a) c h
+      ∙ budget-six (partsOf rule) (madeBy rule) (config .limit) (config .branching) (lostBy rule) budget 0 (start rule) (sym (call-passed rows dim (withBudget config budget) drawn values lent e) ∙ a) c h

@@ -79,12 +79,12 @@ fitting rows dim config draws values order ends means gathered training e =
 -- ---- what each answer gives
 
 module _ (answer : Answer Groups) (dim : ℕ) (values : List Float) (order ends : List ℕ) (meanCells : ℕ) where
-  pub gives-listed : (groups splits : ℕ) (means : List Float) → length ends ≡ length order → Grouped answer (length order) (Accepted groups splits) order ends
+  pub gives-listed : (groups splits unplaced : ℕ) (means : List Float) → length ends ≡ length order → Grouped answer (length order) (Accepted groups splits unplaced) order ends
       → ((gs : List (List ℕ)) → order ≡ flatten gs → take groups ends ≡ endsFrom 0 gs → means ≡ padded zero32 meanCells (flatMap (meanOf dim (rowsFrom dim (length order) values)) gs))
-      → Gives answer dim (rowsFrom dim (length order) values) (length order) (length ends) meanCells (Accepted groups splits) order ends means
+      → Gives answer dim (rowsFrom dim (length order) values) (length order) (length ends) meanCells (Accepted groups splits unplaced) order ends means
   unfolding cellsOf
-  gives-listed groups splits means e h m =
-      let t = taken answer (length order) groups splits order ends h in
+  gives-listed groups splits unplaced means e h m =
+      let t = taken answer (length order) groups splits unplaced order ends h in
       record {
         result = h .result;
         ordered = rw (t .is) (t .laid ∙ sym (padded-all blankCell (length order) (flatten (t .g .groups)) (ap length (sym (t .laid)))));

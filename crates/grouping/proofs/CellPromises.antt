@@ -22,7 +22,7 @@ use Rattle.grouping.specs.Call.{lengthsFit, Gives}
 use Rattle.grouping.proofs.Stretches.{flatten-part, flatMap-part, flatMap-length, padded-is, ends-length, start-is, end-is}
 use Rattle.grouping.proofs.Averages.{mean-length}
 use Rattle.grouping.proofs.GroupPromises.{Sized, Listing, some-group}
-use Rattle.grouping.proofs.CallPromises.{call, passed-exactly, accepted-passed, EndsAfter, accepted-splits, call-listing}
+use Rattle.grouping.proofs.CallPromises.{call, passed-exactly, accepted-passed, EndsAfter, accepted-splits, call-listing, call-unplaced}
 
 -- group i as a caller reads it: the stretch of the row order from the end before it, 0 for the first, up to its own end
 abbrev pub groupAt : List ℕ → List ℕ → ℕ → List ℕ
@@ -103,29 +103,40 @@ module _ (rows dim : ℕ) (config : GroupingConfig) (drawn : List ℕ) (values :
           (rw z at e, record { order-blank = o ∙ padded-none blankCell orderCells; ends-blank = n ∙ padded-none blankCell endCells; means-zero = m ∙ padded-none zero32 meanCells })
 
   -- what lies behind a call that is told `Accepted`
-  record Behind (groups splits : ℕ) (order ends : List ℕ) (means : List Float) : Type 0 where
+  record Behind (groups splits unplaced : ℕ) (order ends : List ℕ) (means : List Float) : Type 0 where
     g : Groups
     is : called ≡ accepted g
     counted : length (g .groups) ≡ groups
     done : g .splits ≡ splits
+    lost : g .unplaced ≡ unplaced
     ordered : order ≡ padded blankCell orderCells (flatten (g .groups))
     ended : ends ≡ padded blankCell endCells (endsFrom 0 (g .groups))
     meant : means ≡ padded zero32 meanCells (flatMap (meanOf dim table) (g .groups))
 
-  behind : (groups splits : ℕ) (order ends : List ℕ) (means : List Float) → Result (Accepted groups splits) order ends means → Behind groups splits order ends means
+  behind : (groups splits unplaced : ℕ) (order ends : List ℕ) (means : List Float) → Result (Accepted groups splits unplaced) order ends means
+      → Behind groups splits unplaced order ends means
   unfolding onAccepted cellsOf
-  behind groups splits order ends means given = go called refl (given .result) (given .ordered) (given .ended) (given .meant)
+  behind groups splits unplaced order ends means given = go called refl (given .result) (given .ordered) (given .ended) (given .meant)
     where
-      go : (a : Answer Groups) → called ≡ a → told (Accepted groups splits) ≡ onAccepted figures a
+      go : (a : Answer Groups) → called ≡ a → told (Accepted groups splits unplaced) ≡ onAccepted figures a
           → order ≡ cellsOf blankCell orderCells (λ (g : Groups). flatten (g .groups)) a → ends ≡ cellsOf blankCell endCells (λ (g : Groups). endsFrom 0 (g .groups)) a
           → means ≡ cellsOf zero32 meanCells (λ (g : Groups). flatMap (meanOf dim table) (g .groups)) a
-          → Behind groups splits order ends means
+          → Behind groups splits unplaced order ends means
       go (accepted g) e t o n m =
-          let z : _≡_ {A = ℕ × ℕ} (figures g) (groups, splits) = cc in
-          record { g = g; is = e; counted = ap (λ (f : ℕ × ℕ). f .0) z; done = ap (λ (f : ℕ × ℕ). f .1) z; ordered = o; ended = n; meant = m }
+          let z : _≡_ {A = ℕ × ℕ × ℕ} (figures g) (groups, splits, unplaced) = cc in
+          record {
+            g = g;
+            is = e;
+            counted = ap (λ (f : ℕ × ℕ × ℕ). f .0) z;
+            done = ap (λ (f : ℕ × ℕ × ℕ). f .1) z;
+            lost = ap (λ (f : ℕ × ℕ × ℕ). f .2) z;
+            ordered = o;
+            ended = n;
+            meant = m;
+          }
       go (refused number) e t o n m = let z : _≡_ {A = ℕ} 0 1 = cc in absurd (omega arith)
 
-  module _ {groups splits : ℕ} {order ends : List ℕ} {means : List Float} (b : Behind groups splits order ends means) where
+  module _ {groups splits unplaced : ℕ} {order ends : List ℕ} {means : List Float} (b : Behind groups splits unplaced order ends means) where
     abbrev gs : List (List ℕ)
     gs = b .g .groups
 
@@ -194,29 +205,36 @@ module _ (rows dim : ℕ) (config : GroupingConfig) (drawn : List ℕ) (values :
         }
 
   -- A call that is told `Accepted` finds in its row order and group ends each row once, in groups of one row to the limit, and their ends.
-  pub call-cells : (groups splits : ℕ) (order ends : List ℕ) (means : List Float) → Result (Accepted groups splits) order ends means
+  pub call-cells : (groups splits unplaced : ℕ) (order ends : List ℕ) (means : List Float) → Result (Accepted groups splits unplaced) order ends means
       → Cells (config .limit) rows groups order ends
-  call-cells groups splits order ends means given = ends-cells (behind groups splits order ends means given)
+  call-cells groups splits unplaced order ends means given = ends-cells (behind groups splits unplaced order ends means given)
 
   -- And in its means those of these groups.
-  pub call-means : (groups splits : ℕ) (order ends : List ℕ) (means : List Float) → Result (Accepted groups splits) order ends means
+  pub call-means : (groups splits unplaced : ℕ) (order ends : List ℕ) (means : List Float) → Result (Accepted groups splits unplaced) order ends means
       → Means dim rows groups table order ends means
-  call-means groups splits order ends means given = mean-cells (behind groups splits order ends means given)
+  call-means groups splits unplaced order ends means given = mean-cells (behind groups splits unplaced order ends means given)
 
   -- The splits that it is told are those after which no group waited.
-  pub told-splits : (groups splits : ℕ) (order ends : List ℕ) (means : List Float) → Result (Accepted groups splits) order ends means
+  pub told-splits : (groups splits unplaced : ℕ) (order ends : List ℕ) (means : List Float) → Result (Accepted groups splits unplaced) order ends means
       → EndsAfter rows dim config drawn values (orderCells ∷ endCells ∷ meanCells ∷ work) splits
-  told-splits groups splits order ends means given =
-      let b = behind groups splits order ends means given in
+  told-splits groups splits unplaced order ends means given =
+      let b = behind groups splits unplaced order ends means given in
       accepted-splits rows dim config drawn values (orderCells ∷ endCells ∷ meanCells ∷ work) splits .0 (b .g, (b .is, b .done)) .1
+
+  -- The unplaced rows that it is told are at most its splits times its rows, and their count never wraps.
+  pub told-unplaced : (groups splits unplaced : ℕ) (order ends : List ℕ) (means : List Float) → Result (Accepted groups splits unplaced) order ends means
+      → (unplaced ≤ splits * rows) × (unplaced ≤ 33554432)
+  told-unplaced groups splits unplaced order ends means given =
+      let b = behind groups splits unplaced order ends means given in
+      rw (b .done, b .lost) at (call-unplaced rows dim config drawn values (orderCells ∷ endCells ∷ meanCells ∷ work) (b .g) (b .is))
 
 -- ---- the answer and every cell follow from the call alone
 told-once : (r r′ : GroupingAnswer) → told r ≡ told r′ → r ≡ r′
-told-once (Accepted g s) (Accepted g′ s′) e =
-    let z : _≡_ {A = ℕ × ℕ} (g, s) (g′, s′) = cc in
-    rw (ap (λ (f : ℕ × ℕ). f .0) z, ap (λ (f : ℕ × ℕ). f .1) z)
-told-once (Accepted g s) (Refused number) e = let z : _≡_ {A = ℕ} 0 1 = cc in absurd (omega arith)
-told-once (Refused number) (Accepted g s) e = let z : _≡_ {A = ℕ} 0 1 = cc in absurd (omega arith)
+told-once (Accepted g s u) (Accepted g′ s′ u′) e =
+    let z : _≡_ {A = ℕ × ℕ × ℕ} (g, s, u) (g′, s′, u′) = cc in
+    rw (ap (λ (f : ℕ × ℕ × ℕ). f .0) z, ap (λ (f : ℕ × ℕ × ℕ). f .1) z, ap (λ (f : ℕ × ℕ × ℕ). f .2) z)
+told-once (Accepted g s u) (Refused number) e = let z : _≡_ {A = ℕ} 0 1 = cc in absurd (omega arith)
+told-once (Refused number) (Accepted g s u) e = let z : _≡_ {A = ℕ} 0 1 = cc in absurd (omega arith)
 told-once (Refused number) (Refused number′) e = let z : number ≡ number′ = cc in rw z
 
 -- Any two results that a call may give are the same: answer, row order, ends and means, and both work slices.

@@ -15,21 +15,21 @@ use Rattle.sums.proofs.Tables.{up-length}
 use Rattle.sums.proofs.Weighs.{weigh, one, countOf, Same, weigh-append, weigh-length}
 use Rattle.sums.proofs.Counts.{Distinct, count-up, count-below}
 use Rattle.sums.proofs.Picks.{below-up}
-use Rattle.kmeans.specs.KMeans.{Result, kmeans, forGrouping}
+use Rattle.kmeans.specs.KMeans.{Result, forGrouping}
 use Rattle.kmeans.proofs.Promises.{labels-below}
 use Rattle.grouping.specs.Parts.{gathered, sizesOf, flat}
 use Rattle.grouping.specs.Balance.{share, allowed, moves, toward}
-use Rattle.grouping.specs.Groups.{Rule, balanceIf, partsOf, madeBy, waits}
+use Rattle.grouping.specs.Groups.{Rule, balanceIf, splitRun, partsOf, madeBy, waits}
 use Rattle.grouping.proofs.Fair.{overBy, shortBy}
 use Rattle.grouping.proofs.Changed.{changed}
 use Rattle.grouping.proofs.BalancePromises.{Promise, balance-promise, gathered-same, gathered-parts}
-use Rattle.grouping.proofs.GroupPromises.{Comes, one-flat, comes-within}
+use Rattle.grouping.proofs.GroupPromises.{Comes, one-flat, one-long, comes-within}
 
 -- ---- one split of a group after n draws
 
 -- what k-means finds for the group's rows
 abbrev pub found : Rule → ℕ → List ℕ → Result
-found rule n g = kmeans (rule .draws) n forGrouping (rule .branching) (rule .dim) (rowsAt (rule .rows) g) .result
+found rule n g = splitRun rule n g .result
 
 -- the rows gathered by its labels
 abbrev pub labelled : Rule → ℕ → List ℕ → List (List ℕ)
@@ -113,7 +113,7 @@ split-within : (rule : Rule) (limit budget n : ℕ) (g : List ℕ) → 0 < rule 
 unfolding flatten
 split-within rule limit budget n g some few s f =
     let first : flatten (start rule) ≡ upTo (length (rule .rows)) = one-flat (upTo (length (rule .rows))) in
-    let b : length (flatten (start rule)) ≤ 4096 = rw (first, up-length (length (rule .rows))) few in
+    let b : length (flatten (start rule)) ≤ 4096 = rw (one-long (length (rule .rows))) few in
     let w = comes-within (partsOf rule) (madeBy rule) limit (rule .branching) 4096 (λ n g k l. parts-kept rule n g some k l .0) (s .comes) b f in
     omega (arith, weigh-append f g (flatten (s .waiting)), ap (weigh f) first, w)
 

@@ -16,10 +16,10 @@ use Rattle.kmeans.specs.declared.restart.Kept.{Kept}
 use Rattle.kmeans.specs.Inside.{Limits}
 use Rattle.kmeans.specs.KMeans.{Result, forGrouping}
 use Rattle.kmeans.proofs.Restarts.{Ran}
-use Rattle.kmeans.proofs.Promises.{labels-below}
+use Rattle.kmeans.proofs.Promises.{labels-below, unplaced-most}
 use Rattle.grouping.specs.Parts.{gathered, flat}
 use Rattle.grouping.specs.Balance.{share}
-use Rattle.grouping.specs.Groups.{ruleOf, balanceIf, partsOf, madeBy}
+use Rattle.grouping.specs.Groups.{Rule, ruleOf, balanceIf, partsOf, madeBy, lostBy}
 use Rattle.grouping.specs.PartsInside.{Laid}
 use Rattle.grouping.specs.Inside.{Split}
 use Rattle.grouping.proofs.Rounds.{Balanced}
@@ -67,6 +67,13 @@ labelled {draws} {k} dim {cursor} {kept} {labels} rows table group inside bits s
 
 -- ---- the split
 
+-- A split leaves no more rows unplaced than the group has.
+pub lost-few : (rule : Rule) (n : ℕ) (group : List ℕ) → lostBy rule n group ≤ length group
+unfolding lostBy
+lost-few rule n group =
+    rw (length-map group (λ i. getD (rule .rows) i [])) at
+    (unplaced-most (rule .draws) n forGrouping (rule .branching) (rule .dim) (rowsAt (rule .rows) group))
+
 -- the slices of a split are those of a k-means run
 pub split-space : {dim k rows n labels gathered centroids training : ℕ} (config : KMeansConfig) → Limits dim k rows → n ≤ 4096 → k ≤ n → labels ≡ n → gathered ≡ n * dim → centroids ≡ k * dim → training ≡ n * dim
     → config ≡ forGrouping
@@ -75,13 +82,19 @@ pub split-space : {dim k rows n labels gathered centroids training : ℕ} (confi
 split-space config l few enough e g c t f = rw (e, f) (((l .0, (l .1 .0, few)), (enough, (omega arith, omega arith))), (g, (c, t)))
 
 pub split-done : {draws : List ℕ} {k : ℕ} (dim : ℕ) {group labels : List ℕ} {cursor : Cursor} {kept : Kept} {centroids : List Row} (table : List Row) (weight : Float) {part sizes : List ℕ}
+    → cursor .at < length draws → cursor .pass < 4294967296 → length group ≤ 4096
     → Ran draws forGrouping k dim (rowsAt table group) cursor kept labels centroids
     → Laid (balanceIf table centroids (share (length group) k) weight (gathered k group labels)) part sizes
-    → Split (ruleOf draws dim table k weight) group cursor (kept .cursor) part sizes
-unfolding partsOf madeBy
-split-done dim table weight ran b = record {
-  inside = ran .inside;
-  steps = λ n p.
-      let w = ran .steps n p in
-      (rw (← ap (λ (r : Result). r .labels) (w .0), ← ap (λ (r : Result). r .centroids) (w .0)) b, w .1);
-}
+    → Split (ruleOf draws dim table k weight) group cursor (record { cursor = kept .cursor; unplaced = kept .unplaced }) part sizes
+unfolding partsOf madeBy lostBy
+split-done {draws} {k} dim {group} {cursor = cursor} {kept = kept} table weight inside bits few ran b =
+    let rule = ruleOf draws dim table k weight in
+    let n = cursor .at + cursor .pass * length draws in
+    let lost : kept .unplaced ≡ lostBy rule n group = ap (λ (r : Result). r .unplaced) (ran .steps n (cursor-own draws cursor inside bits) .0) in
+    record {
+      inside = ran .inside;
+      few = omega (arith, lost, lost-few rule n group);
+      steps = λ n p.
+          let w = ran .steps n p in
+          (rw (← ap (λ (r : Result). r .labels) (w .0), ← ap (λ (r : Result). r .centroids) (w .0)) b, (w .1, ap (λ (r : Result). r .unplaced) (w .0)));
+    }

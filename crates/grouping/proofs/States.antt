@@ -23,12 +23,13 @@ use Rattle.sums.proofs.Belows.{below-take, below-drop, below-append}
 use Rattle.sums.proofs.Refusing.{padded-none, padded-more}
 use Rattle.sums.proofs.Pairs.{All, all-append}
 use Rattle.grouping.specs.Parts.{flat, sizesOf}
-use Rattle.grouping.specs.Groups.{Rule, ruleOf, Groups, partsOf, madeBy, waits, pushed, after, groupFrom, grouping, endsFrom}
+use Rattle.grouping.specs.Groups.{Rule, ruleOf, Groups, partsOf, madeBy, lostBy, waits, pushed, after, groupFrom, grouping, endsFrom}
 use Rattle.grouping.specs.PartsInside.{Laid, total}
 use Rattle.grouping.specs.Inside.{Room, Split, pushes, Grouped}
 use Rattle.grouping.proofs.Lists.{below-same}
 use Rattle.grouping.proofs.Layouts.{sizes-total}
 use Rattle.grouping.proofs.SplitPromises.{parts-kept}
+use Rattle.grouping.specs.declared.split.Divided.{Divided}
 use Rattle.grouping.specs.declared.waiting.GroupingAnswer.{GroupingAnswer}
 use Rattle.grouping.specs.declared.waiting.GroupingAnswer.the-variants.{Accepted, Refused}
 use Rattle.grouping.specs.Answers.{figures, told}
@@ -63,9 +64,9 @@ pushes-few e [] = omega arith
 pushes-few e (zero ∷ ss) = omega (arith, pushes-few e ss)
 pushes-few e (suc n ∷ ss) = omega (arith, pushes-few (e - suc n) ss)
 
--- `listed` are finished and `w` wait, after so many splits and n draws
-pub record State (parts : ℕ → List ℕ → List (List ℕ)) (made : ℕ → List ℕ → ℕ) (limit k budget : ℕ) (whole : Answer Groups) (rows : ℕ)
-    (listed w : List (List ℕ)) (order waiting ends : List ℕ) (top groups splits start n : ℕ) : Type 0 where
+-- `listed` are finished and `w` wait, after so many splits and n draws, with so many unplaced rows
+pub record State (parts : ℕ → List ℕ → List (List ℕ)) (made lost : ℕ → List ℕ → ℕ) (limit k budget : ℕ) (whole : Answer Groups) (rows : ℕ)
+    (listed w : List (List ℕ)) (order waiting ends : List ℕ) (top groups splits unplaced start n : ℕ) : Type 0 where
   pub layout : order ≡ flatten listed ++ flatten w
   pub begin : start ≡ length (flatten listed)
   pub stack : take top waiting ≡ tops start w
@@ -74,12 +75,12 @@ pub record State (parts : ℕ → List ℕ → List (List ℕ)) (made : ℕ → 
   pub many : groups ≡ length listed
   pub waiting-full : All Full w
   pub listed-full : All Full listed
-  pub result : after listed splits (groupFrom parts made limit k (budget - splits) n w) ≡ whole
+  pub result : after listed splits unplaced (groupFrom parts made lost limit k (budget - splits) n w) ≡ whole
 
 module _
-    {parts : ℕ → List ℕ → List (List ℕ)} {made : ℕ → List ℕ → ℕ} {limit k budget : ℕ} {whole : Answer Groups} {rows : ℕ} {listed : List (List ℕ)} {g : List ℕ}
-    {gs : List (List ℕ)} {order waiting ends : List ℕ} {top groups splits start n : ℕ}
-    (st : State parts made limit k budget whole rows listed (g ∷ gs) order waiting ends top groups splits start n) where
+    {parts : ℕ → List ℕ → List (List ℕ)} {made lost : ℕ → List ℕ → ℕ} {limit k budget : ℕ} {whole : Answer Groups} {rows : ℕ} {listed : List (List ℕ)} {g : List ℕ}
+    {gs : List (List ℕ)} {order waiting ends : List ℕ} {top groups splits unplaced start n : ℕ}
+    (st : State parts made lost limit k budget whole rows listed (g ∷ gs) order waiting ends top groups splits unplaced start n) where
   one-less : top - 1 ≡ length gs
   one-less = omega (arith, st .tall)
 
@@ -115,7 +116,7 @@ module _
 
     -- a group that is small enough is listed
     pub finish : length g ≤ limit → groups < rows
-        → State parts made limit k budget whole rows (listed ++ (g ∷ [])) gs order waiting (set ends groups end) (top - 1) (groups + 1) splits end n
+        → State parts made lost limit k budget whole rows (listed ++ (g ∷ [])) gs order waiting (set ends groups end) (top - 1) (groups + 1) splits unplaced end n
     finish h r = record {
       layout = laid ∙ sym (ap (λ (z : List ℕ). z ++ flatten gs) (flatten-snoc listed g) ∙ append-assoc (flatten listed) g (flatten gs));
       begin = e ∙ sym (ap length (flatten-snoc listed g) ∙ length-append (flatten listed) g ∙ omega (arith, st .begin));
@@ -129,7 +130,7 @@ module _
       waiting-full = st .waiting-full .1;
       listed-full = all-append Full listed (g ∷ []) (st .listed-full) (st .waiting-full .0, tt);
       result =
-          sym (ap (λ z. after listed splits z) (group-list parts made limit k n g gs (budget - splits) h) ∙ sofar-list listed splits g (groupFrom parts made limit k (budget - splits) n gs))
+          sym (ap (λ z. after listed splits unplaced z) (group-list parts made lost limit k n g gs (budget - splits) h) ∙ sofar-list listed splits unplaced g (groupFrom parts made lost limit k (budget - splits) n gs))
           ∙ st .result;
     }
 
@@ -138,10 +139,10 @@ module _
     push-room sizes t = omega (arith, one-less, pushes-few end sizes, top-in, full-count gs (st .waiting-full .1))
 
     -- one that is not is split
-    pub cut-up : limit < length g → k ≤ length g → splits < budget → (last sizes waiting′ : List ℕ) (r : ℕ) → length last ≡ length g → last ≡ flat (parts n g)
-        → sizes ≡ sizesOf (parts n g) → r ≡ top - 1 + length (pushes end sizes) → take r waiting′ ≡ take (top - 1) waiting ++ pushes end sizes
-        → State parts made limit k budget whole rows listed (pushed (parts n g) gs) (putMid start (end - start) order last) waiting′ ends r groups (splits + 1) start (made n g)
-    cut-up big enough left last sizes waiting′ r long l s q t =
+    pub cut-up : limit < length g → k ≤ length g → splits < budget → (last sizes waiting′ : List ℕ) (r u : ℕ) → length last ≡ length g → last ≡ flat (parts n g)
+        → sizes ≡ sizesOf (parts n g) → u ≡ lost n g → r ≡ top - 1 + length (pushes end sizes) → take r waiting′ ≡ take (top - 1) waiting ++ pushes end sizes
+        → State parts made lost limit k budget whole rows listed (pushed (parts n g) gs) (putMid start (end - start) order last) waiting′ ends r groups (splits + 1) (unplaced + u) start (made n g)
+    cut-up big enough left last sizes waiting′ r u long l s m q t =
         let z : budget - splits ≡ suc (budget - (splits + 1)) = omega arith in
         let v = pushed (parts n g) gs in
         let tp : tops start v ≡ tops end gs ++ pushes end (sizesOf (parts n g)) = tops-pushed start end (parts n g) gs (omega (arith, ap length l)) in
@@ -167,26 +168,26 @@ module _
           listed-full = st .listed-full;
           result =
               sym
-              (ap (λ o. after listed splits o) (group-split parts made limit k n g gs (budget - (splits + 1)) big enough)
-              ∙ sofar-more listed splits (groupFrom parts made limit k (budget - (splits + 1)) (made n g) v))
+              (ap (λ o. after listed splits unplaced o) (group-split parts made lost limit k n g gs (budget - (splits + 1)) big enough)
+              ∙ rw m (sofar-more listed splits unplaced (lost n g) (groupFrom parts made lost limit k (budget - (splits + 1)) (made n g) v)))
               ∙ (rw z at (st .result));
         }
 
   -- what is refused
   pub refuse-six : limit < length g → length g < k → whole ≡ refused 6
   unfolding after onAccepted
-  refuse-six p q = sym (st .result) ∙ rw (group-six parts made limit k n g gs (budget - splits) p q)
+  refuse-six p q = sym (st .result) ∙ rw (group-six parts made lost limit k n g gs (budget - splits) p q)
 
   pub refuse-seven : splits ≡ budget → limit < length g → k ≤ length g → whole ≡ refused 7
   unfolding after onAccepted
   refuse-seven e p q =
       let z : budget - splits ≡ 0 = omega arith in
-      sym (st .result) ∙ rw (z, group-seven parts made limit k n g gs p q)
+      sym (st .result) ∙ rw (z, group-seven parts made lost limit k n g gs p q)
 
 module _
-    {parts : ℕ → List ℕ → List (List ℕ)} {made : ℕ → List ℕ → ℕ} {limit k budget : ℕ} {whole : Answer Groups} {rows : ℕ} {listed w : List (List ℕ)}
-    {order waiting ends : List ℕ} {top groups splits start n : ℕ}
-    (st : State parts made limit k budget whole rows listed w order waiting ends top groups splits start n) where
+    {parts : ℕ → List ℕ → List (List ℕ)} {made lost : ℕ → List ℕ → ℕ} {limit k budget : ℕ} {whole : Answer Groups} {rows : ℕ} {listed w : List (List ℕ)}
+    {order waiting ends : List ℕ} {top groups splits unplaced start n : ℕ}
+    (st : State parts made lost limit k budget whole rows listed w order waiting ends top groups splits unplaced start n) where
   -- the groups listed and waiting are no more than the rows
   pub state-room : groups + top ≤ length order
   state-room =
@@ -194,14 +195,14 @@ module _
 
   -- nothing waits any more
   all-listed : top ≤ 0
-      → (whole ≡ accepted (record { groups = listed; splits = splits })) × ((order ≡ flatten listed) × ((ends ≡ padded blankCell rows (endsFrom 0 listed)) × (groups ≡ length listed)))
+      → (whole ≡ accepted (record { groups = listed; splits = splits; unplaced = unplaced })) × ((order ≡ flatten listed) × ((ends ≡ padded blankCell rows (endsFrom 0 listed)) × (groups ≡ length listed)))
   unfolding flatten
   all-listed p = go w st
     where
-      go : (v : List (List ℕ)) → State parts made limit k budget whole rows listed v order waiting ends top groups splits start n
-          → (whole ≡ accepted (record { groups = listed; splits = splits })) × ((order ≡ flatten listed) × ((ends ≡ padded blankCell rows (endsFrom 0 listed)) × (groups ≡ length listed)))
+      go : (v : List (List ℕ)) → State parts made lost limit k budget whole rows listed v order waiting ends top groups splits unplaced start n
+          → (whole ≡ accepted (record { groups = listed; splits = splits; unplaced = unplaced })) × ((order ≡ flatten listed) × ((ends ≡ padded blankCell rows (endsFrom 0 listed)) × (groups ≡ length listed)))
       go [] s = (
-        sym (s .result) ∙ rw (group-end parts made limit k (budget - splits) n) (sofar-end listed splits),
+        sym (s .result) ∙ rw (group-end parts made lost limit k (budget - splits) n) (sofar-end listed splits unplaced),
         (s .layout ∙ append-nil (flatten listed), (s .ended, s .many)),
       )
       go (g ∷ gs) s = absurd (omega (arith, s .tall))
@@ -236,37 +237,38 @@ module _ {answer : Answer Groups} {n : ℕ} {r : GroupingAnswer} {order ends : L
   grouped-refused number e t = record { result = t ∙ rw e; listed = λ g f. let z : _≡_ {A = ℕ} 0 1 = cc in absurd (omega arith) }
 
 -- ---- what the loop keeps
-pub record Clustering (rule : Rule) (limit budget rows : ℕ) (order waiting ends : List ℕ) (top groups splits start : ℕ) (cursor : Cursor) : Type 0 where
+pub record Clustering (rule : Rule) (limit budget rows : ℕ) (order waiting ends : List ℕ) (top groups splits unplaced start : ℕ) (cursor : Cursor) : Type 0 where
   pub room : groups + top ≤ rows
   pub spent : splits ≤ budget
+  pub count : unplaced ≤ splits * 4096
   pub inside : cursor .at < length (rule .draws)
   pub below : Below rows order
   pub made : ℕ
   pub drawn : cursor ≡ cursorAt (rule .draws) made
   pub listed : List (List ℕ)
   pub w : List (List ℕ)
-  pub state : State (partsOf rule) (madeBy rule) limit (rule .branching) budget (grouping rule limit budget) rows listed w order waiting ends top groups splits start made
+  pub state : State (partsOf rule) (madeBy rule) (lostBy rule) limit (rule .branching) budget (grouping rule limit budget) rows listed w order waiting ends top groups splits unplaced start made
 
 -- the top of the stack
-pub record Open (rule : Rule) (limit budget rows : ℕ) (order waiting ends : List ℕ) (top groups splits start made : ℕ) : Type 0 where
+pub record Open (rule : Rule) (limit budget rows : ℕ) (order waiting ends : List ℕ) (top groups splits unplaced start made : ℕ) : Type 0 where
   pub listed : List (List ℕ)
   pub g : List ℕ
   pub gs : List (List ℕ)
-  pub st : State (partsOf rule) (madeBy rule) limit (rule .branching) budget (grouping rule limit budget) rows listed (g ∷ gs) order waiting ends top groups splits start made
+  pub st : State (partsOf rule) (madeBy rule) (lostBy rule) limit (rule .branching) budget (grouping rule limit budget) rows listed (g ∷ gs) order waiting ends top groups splits unplaced start made
 
 module _
-    {rule : Rule} {limit budget rows : ℕ} {order waiting ends : List ℕ} {top groups splits start : ℕ} {cursor : Cursor}
-    (h : Clustering rule limit budget rows order waiting ends top groups splits start cursor) where
-  pub open-up : 0 < top → Open rule limit budget rows order waiting ends top groups splits start (h .made)
+    {rule : Rule} {limit budget rows : ℕ} {order waiting ends : List ℕ} {top groups splits unplaced start : ℕ} {cursor : Cursor}
+    (h : Clustering rule limit budget rows order waiting ends top groups splits unplaced start cursor) where
+  pub open-up : 0 < top → Open rule limit budget rows order waiting ends top groups splits unplaced start (h .made)
   open-up p = go (h .w) (h .state)
     where
-      go : (w : List (List ℕ)) → State (partsOf rule) (madeBy rule) limit (rule .branching) budget (grouping rule limit budget) rows (h .listed) w order waiting ends top groups splits start (h .made)
-          → Open rule limit budget rows order waiting ends top groups splits start (h .made)
+      go : (w : List (List ℕ)) → State (partsOf rule) (madeBy rule) (lostBy rule) limit (rule .branching) budget (grouping rule limit budget) rows (h .listed) w order waiting ends top groups splits unplaced start (h .made)
+          → Open rule limit budget rows order waiting ends top groups splits unplaced start (h .made)
       go [] s = absurd (omega (arith, s .tall))
       go (g ∷ gs) s = record { listed = h .listed; g = g; gs = gs; st = s }
 
   -- all groups are listed
-  pub clustering-end : top ≤ 0 → Grouped (grouping rule limit budget) rows (Accepted groups splits) order ends
+  pub clustering-end : top ≤ 0 → Grouped (grouping rule limit budget) rows (Accepted groups splits unplaced) order ends
   unfolding onAccepted
   clustering-end p =
       let a = all-listed (h .state) p in
@@ -279,13 +281,14 @@ module _
     pub end-room : (start < end) × (end ≤ rows)
     end-room = let o = open-up p in (omega (arith, end-top, top-full (o .st)), omega (arith, end-top, top-in (o .st)))
 
-    pub clustering-list : end - start ≤ limit → Clustering rule limit budget rows order waiting (set ends groups end) (top - 1) (groups + 1) splits end cursor
+    pub clustering-list : end - start ≤ limit → Clustering rule limit budget rows order waiting (set ends groups end) (top - 1) (groups + 1) splits unplaced end cursor
     clustering-list f =
         let o = open-up p in
         let e = end-top in
         record {
           room = omega (arith, h .room);
           spent = h .spent;
+          count = h .count;
           inside = h .inside;
           below = h .below;
           made = h .made;
@@ -308,7 +311,7 @@ module _
         grouped-refused _ (refuse-seven (o .st) b (omega arith) (omega arith)) refl
 
     module _
-        {next : Cursor} {last sizes : List ℕ} (s : Split rule (midOf start (end - start) order) cursor next last sizes)
+        {cut : Divided} {last sizes : List ℕ} (s : Split rule (midOf start (end - start) order) cursor cut last sizes)
         (same : length last ≡ length (midOf start (end - start) order)) where
       -- the parts that the split made
       abbrev made-parts : List (List ℕ)
@@ -329,14 +332,14 @@ module _
 
       pub clustering-split : 0 < rule .branching → rows ≤ 4096 → limit < end - start → rule .branching ≤ end - start → splits < budget → (waiting′ : List ℕ) (r : ℕ)
           → r ≡ top - 1 + length (pushes end sizes) → take r waiting′ ≡ take (top - 1) waiting ++ pushes end sizes
-          → Clustering rule limit budget rows (putMid start (end - start) order last) waiting′ ends r groups (splits + 1) start next
+          → Clustering rule limit budget rows (putMid start (end - start) order last) waiting′ ends r groups (splits + 1) (unplaced + cut .unplaced) start (cut .cursor)
       clustering-split some few f k b waiting′ r u v =
           let o = open-up p in
           let e = end-top in
           let group = midOf start (end - start) order in
           let m : group ≡ o .g = mid-is (o .st) end e in
           let d = rw m at (s .steps (h .made) (h .drawn)) in
-          let t = cut-up (o .st) end e (omega arith) (omega arith) b last sizes waiting′ r (same ∙ ap length m) (d .0 .0) (d .0 .1) u v in
+          let t = cut-up (o .st) end e (omega arith) (omega arith) b last sizes waiting′ r (cut .unplaced) (same ∙ ap length m) (d .0 .0) (d .0 .1) (d .1 .1) u v in
           let z = same-len-mid {X = ℕ} start (end - start) order last same in
           let l : length group ≡ end - start = ap length m ∙ omega arith in
           let inside : Below rows group = below-take rows (end - start) (drop start order) (below-drop rows start order (h .below)) in
@@ -344,13 +347,14 @@ module _
           record {
             room = omega (arith, state-room t);
             spent = omega arith;
+            count = omega (arith, h .count, s .few);
             inside = s .inside;
             below =
                 below-append rows (take start order) (last ++ drop (end - start) (drop start order)) (below-take rows start order (h .below))
                 (below-append rows last (drop (end - start) (drop start order)) (rw (made-laid .0) (below-same rows (flat made-parts) group kept inside))
                 (below-drop rows (end - start) (drop start order) (below-drop rows start order (h .below))));
             made = madeBy rule (h .made) (o .g);
-            drawn = d .1;
+            drawn = d .1 .0;
             listed = o .listed;
             w = pushed (partsOf rule (h .made) (o .g)) (o .gs);
             state = t;
@@ -380,12 +384,12 @@ module _ (draws : List ℕ) (dim : ℕ) (values : Row) (k : ℕ) (weight : Float
   abbrev ruled : Rule
   ruled = ruleOf draws dim (rowsFrom dim (length order) values) k weight
 
-  whole-is : groupFrom (partsOf ruled) (madeBy ruled) limit k budget 0 (waits order []) ≡ grouping ruled limit budget
-  whole-is = ap (λ (l : List ℕ). groupFrom (partsOf ruled) (madeBy ruled) limit k budget 0 (waits l [])) (up ∙ ap upTo (sym (rows-length dim (length order) values)))
+  whole-is : groupFrom (partsOf ruled) (madeBy ruled) (lostBy ruled) limit k budget 0 (waits order []) ≡ grouping ruled limit budget
+  whole-is = ap (λ (l : List ℕ). groupFrom (partsOf ruled) (madeBy ruled) (lostBy ruled) limit k budget 0 (waits l [])) (up ∙ ap upTo (sym (rows-length dim (length order) values)))
 
   pub clustering-start : (waiting ends : List ℕ) (top : ℕ) (cursor : Cursor) → 0 < length waiting → length ends ≡ length order → ends ≡ replicate (length ends) blankCell
       → 0 < length draws → top ≡ min (length order) 1 → cursor ≡ cursorAt draws 0
-      → Clustering ruled limit budget (length order) order (set waiting 0 (length order)) ends top 0 0 0 cursor
+      → Clustering ruled limit budget (length order) order (set waiting 0 (length order)) ends top 0 0 0 0 cursor
   unfolding flatten endsFrom
   clustering-start waiting ends top cursor room l blank d t c =
       let b : budget - 0 ≡ budget = omega arith in
@@ -393,6 +397,7 @@ module _ (draws : List ℕ) (dim : ℕ) (values : Row) (k : ℕ) (weight : Float
       record {
         room = omega (arith, t);
         spent = omega arith;
+        count = omega arith;
         inside = start-inside draws cursor c d;
         below = subst (λ (m : List ℕ). Below (length order) m) (sym up) (below-up (length order));
         made = 0;
@@ -415,6 +420,10 @@ module _ (draws : List ℕ) (dim : ℕ) (values : Row) (k : ℕ) (weight : Float
 -- ---- numbers of a turn
 pub one-more : (splits budget : ℕ) → splits ≤ budget → budget < 65536 → Fits w32 (splits + 1)
 one-more splits budget h k = omega arith
+
+-- splits leave at most 4,096 rows unplaced each
+pub count-fits : (unplaced u splits budget : ℕ) → unplaced ≤ splits * 4096 → u ≤ 4096 → splits ≤ budget → budget < 65536 → Fits w32 (unplaced + u)
+count-fits unplaced u splits budget h k s b = omega arith
 
 pub not-spent : (splits budget : ℕ) → splits ≤ budget → (splits ≡ budget → ⊥) → splits < budget
 not-spent splits budget h k = omega arith

@@ -9,7 +9,7 @@ use Rattle.sums.specs.Tables.{upTo}
 use Rattle.sums.specs.Rows.{Row, rowsAt}
 use Rattle.sums.specs.Sums.{zero32, count32, addRow, zeroRow}
 use Rattle.sums.specs.Refusals.{Answer, accepted, refused, onAccepted}
-use Rattle.kmeans.specs.KMeans.{kmeans, forGrouping}
+use Rattle.kmeans.specs.KMeans.{Run, kmeans, forGrouping}
 use Rattle.grouping.specs.Parts.{gathered}
 use Rattle.grouping.specs.Balance.{share, balance}
 
@@ -24,15 +24,23 @@ ruleOf draws dim rows branching weight = record { draws = draws; dim = dim; rows
 unfoldable pub balanceIf : List Row → List Row → ℕ → Float → List (List ℕ) → List (List ℕ)
 balanceIf rows centroids share weight parts = cond (lt zero32 weight) (balance rows centroids share weight parts) parts
 
--- one split after n draws: k-means over the group's rows in listed order, the rows gathered per label, and balancing
+-- the k-means of one split after n draws: over the group's rows in listed order
+abbrev pub splitRun : Rule → ℕ → List ℕ → Run
+splitRun rule n group = kmeans (rule .draws) n forGrouping (rule .branching) (rule .dim) (rowsAt (rule .rows) group)
+
+-- the split: k-means, the rows gathered per label, and balancing
 unfoldable pub partsOf : Rule → ℕ → List ℕ → List (List ℕ)
 partsOf rule n group =
-    let found = kmeans (rule .draws) n forGrouping (rule .branching) (rule .dim) (rowsAt (rule .rows) group) .result in
+    let found = splitRun rule n group .result in
     balanceIf (rule .rows) (found .centroids) (share (length group) (rule .branching)) (rule .weight) (gathered (rule .branching) group (found .labels))
 
 -- the draws made after it
 unfoldable pub madeBy : Rule → ℕ → List ℕ → ℕ
-madeBy rule n group = kmeans (rule .draws) n forGrouping (rule .branching) (rule .dim) (rowsAt (rule .rows) group) .made
+madeBy rule n group = splitRun rule n group .made
+
+-- the rows that it left unplaced (02 (ii))
+unfoldable pub lostBy : Rule → ℕ → List ℕ → ℕ
+lostBy rule n group = splitRun rule n group .result .unplaced
 
 -- a part that has rows waits on top of the others
 unfoldable pub waits : List ℕ → List (List ℕ) → List (List ℕ)
@@ -44,14 +52,17 @@ unfoldable pub pushed : List (List ℕ) → List (List ℕ) → List (List ℕ)
 pushed [] waiting = waiting
 pushed (p ∷ parts) waiting = pushed parts (waits p waiting)
 
--- what a grouping gives: the groups in the order listed, and the number of splits
+-- what a grouping gives: the groups in the order listed, the number of splits, and the unplaced rows summed over them (02 (ii)): a row that two splits
+-- left unplaced counts twice
 pub record Groups : Type 0 where
   pub groups : List (List ℕ)
   pub splits : ℕ
+  pub unplaced : ℕ
 
--- what a grouping gives where groups were listed and splits done before it
-unfoldable pub after : List (List ℕ) → ℕ → Answer Groups → Answer Groups
-after listed splits answer = onAccepted (λ (g : Groups). record { groups = listed ++ g .groups; splits = splits + g .splits }) answer
+-- what a grouping gives where groups were listed and splits done before it, with so many unplaced rows
+unfoldable pub after : List (List ℕ) → ℕ → ℕ → Answer Groups → Answer Groups
+after listed splits unplaced answer =
+    onAccepted (λ (g : Groups). record { groups = listed ++ g .groups; splits = splits + g .splits; unplaced = unplaced + g .unplaced }) answer
 
 -- the groups at the front that are at or below the limit: they are finished and listed; and what waits behind them
 unfoldable pub front : ℕ → List (List ℕ) → List (List ℕ)
@@ -62,25 +73,25 @@ unfoldable pub back : ℕ → List (List ℕ) → List (List ℕ)
 back limit [] = []
 back limit (g ∷ waiting) = cond (leb (length g) limit) (back limit waiting) (g ∷ waiting)
 
--- `parts n g` are the parts of the group g after n draws, and `made n g` the draws made then
-module _ (parts : ℕ → List ℕ → List (List ℕ)) (made : ℕ → List ℕ → ℕ) (limit branching : ℕ) where
+-- `parts n g` are the parts of the group g after n draws, `made n g` the draws made then, and `lost n g` its unplaced rows
+module _ (parts : ℕ → List ℕ → List (List ℕ)) (made lost : ℕ → List ℕ → ℕ) (limit branching : ℕ) where
   -- with so many splits left: nothing waits, or the first waiting group is oversize and is refused by 6 or 7 or split
   unfoldable pub splitFrom : ℕ → ℕ → List (List ℕ) → Answer Groups
-  splitFrom zero n [] = accepted (record { groups = []; splits = 0 })
+  splitFrom zero n [] = accepted (record { groups = []; splits = 0; unplaced = 0 })
   splitFrom zero n (g ∷ waiting) = cond (ltb (length g) branching) (refused 6) (refused 7)
-  splitFrom (suc left) n [] = accepted (record { groups = []; splits = 0 })
+  splitFrom (suc left) n [] = accepted (record { groups = []; splits = 0; unplaced = 0 })
   splitFrom (suc left) n (g ∷ waiting) =
       let then = pushed (parts n g) waiting in
       let rest = splitFrom left (made n g) (back limit then) in
-      cond (ltb (length g) branching) (refused 6) (after (front limit then) 1 rest)
+      cond (ltb (length g) branching) (refused 6) (after (front limit then) 1 (lost n g) rest)
 
   -- the groups that are small enough are listed first
   unfoldable pub groupFrom : ℕ → ℕ → List (List ℕ) → Answer Groups
-  groupFrom left n waiting = after (front limit waiting) 0 (splitFrom left n (back limit waiting))
+  groupFrom left n waiting = after (front limit waiting) 0 0 (splitFrom left n (back limit waiting))
 
 -- all rows wait as one group, or none where there is no row
 abbrev pub grouping : Rule → ℕ → ℕ → Answer Groups
-grouping rule limit budget = groupFrom (partsOf rule) (madeBy rule) limit (rule .branching) budget 0 (waits (upTo (length (rule .rows))) [])
+grouping rule limit budget = groupFrom (partsOf rule) (madeBy rule) (lostBy rule) limit (rule .branching) budget 0 (waits (upTo (length (rule .rows))) [])
 
 -- the running totals of the group sizes, from s on
 unfoldable pub endsFrom : ℕ → List (List ℕ) → List ℕ

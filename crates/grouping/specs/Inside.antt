@@ -8,8 +8,9 @@ use Rattle.sums.specs.Draws.{cursorAt}
 use Rattle.sums.specs.declared.draws.Cursor.{Cursor}
 use Rattle.sums.specs.Refusals.{Answer, accepted, onAccepted, padded, blankCell}
 use Rattle.kmeans.specs.Inside.{Limits}
+use Rattle.grouping.specs.declared.split.Divided.{Divided}
 use Rattle.grouping.specs.declared.waiting.GroupingAnswer.{GroupingAnswer}
-use Rattle.grouping.specs.Groups.{Rule, Groups, partsOf, madeBy, endsFrom}
+use Rattle.grouping.specs.Groups.{Rule, Groups, partsOf, madeBy, lostBy, endsFrom}
 use Rattle.grouping.specs.PartsInside.{Laid}
 use Rattle.grouping.specs.Answers.{figures, told}
 
@@ -18,10 +19,13 @@ abbrev pub Room : ℕ → ℕ → ℕ → ℕ → ℕ → ℕ → Type 0
 Room dim k rows values gathered training =
     record { limits : Limits dim k rows; value-cells : values ≡ rows * dim; gathered-cells : gathered ≡ rows * dim; training-cells : training ≡ rows * dim }
 
--- a group was split (01, 'Grouping'): its stretch holds the parts, with their sizes, and the cursor stands where k-means left it
-pub record Split (rule : Rule) (group : List ℕ) (cursor r : Cursor) (part sizes : List ℕ) : Type 0 where
-  pub inside : r .at < length (rule .draws)
-  pub steps : (n : ℕ) → cursor ≡ cursorAt (rule .draws) n → Laid (partsOf rule n group) part sizes × (r ≡ cursorAt (rule .draws) (madeBy rule n group))
+-- a group was split (01, 'Grouping'): its stretch holds the parts, with their sizes; the cursor stands where k-means left it, and its unplaced rows are
+-- told (02 (ii)), no more than there may be rows
+pub record Split (rule : Rule) (group : List ℕ) (cursor : Cursor) (r : Divided) (part sizes : List ℕ) : Type 0 where
+  pub inside : r .cursor .at < length (rule .draws)
+  pub few : r .unplaced ≤ 4096
+  pub steps : (n : ℕ) → cursor ≡ cursorAt (rule .draws) n
+      → Laid (partsOf rule n group) part sizes × ((r .cursor ≡ cursorAt (rule .draws) (madeBy rule n group)) × (r .unplaced ≡ lostBy rule n group))
 
 -- the ends that parts of these sizes put on the stack, the first part ending at e
 unfoldable pub pushes : ℕ → List ℕ → List ℕ

@@ -87,9 +87,17 @@ fn finish(
         r (now (order .exit)) (now (ends .exit)) (now (means .exit))) ⌝ }
 {
     match found {
-        GroupingAnswer::Accepted { groups, splits } => {
+        GroupingAnswer::Accepted {
+            groups,
+            splits,
+            unplaced,
+        } => {
             means::fill_means(values, dim, order, ends, groups as usize, means);
-            GroupingAnswer::Accepted { groups, splits }
+            GroupingAnswer::Accepted {
+                groups,
+                splits,
+                unplaced,
+            }
         }
         GroupingAnswer::Refused(number) => {
             cells::fill(order, 65535);

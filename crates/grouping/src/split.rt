@@ -38,6 +38,12 @@ fn balance_if(
     }
 }
 
+// Where k-means left the draws, and how many of the group's rows it left unplaced.
+pub struct Divided {
+    pub cursor: Cursor,
+    pub unplaced: u32,
+}
+
 // K-means over the group's rows in listed order, the rows gathered per label, and balancing. `part` is the group's stretch of the row
 // order: afterwards it holds the parts, the last first, and `sizes` how many rows each part has.
 pub fn split_cluster(
@@ -51,7 +57,7 @@ pub fn split_cluster(
     sizes: &mut [u16],
     gathered: &mut [f32],
     training: &mut [f32],
-) -> Cursor
+) -> Divided
     requires { ⌜ Room dim (length (now sizes)) rows (length (now values)) (length (now gathered)) (length (now training)) ⌝ }
     requires { ⌜ (length (now sizes) ≤ length (now part)) × ((length (now part) ≤ rows)
         × (Below rows (now part) × (cursor .at < length (now draws)))) ⌝ }
@@ -81,5 +87,8 @@ pub fn split_cluster(
     gather::gather(part, &copied[..n], &labels[..n], sizes);
     balance_if(values, dim, &centroids[..width], weight, part, sizes);
     let next = kept.cursor;
-    next
+    Divided {
+        cursor: next,
+        unplaced: kept.unplaced,
+    }
 }

@@ -6,6 +6,7 @@ ghost use Prim.Native.Nat.{_+_, _≤_, _<_};
 ghost use lib.ListN.{length, take, replicate};
 ghost use Rattle.sums.specs.Rows.{rowsFrom};
 ghost use Rattle.sums.specs.Tables.{upTo};
+ghost use Rattle.grouping.specs.declared.waiting.GroupingAnswer.the-variants.{Accepted};
 ghost use Rattle.grouping.specs.Groups.{ruleOf, grouping};
 ghost use Rattle.grouping.specs.PartsInside.{total};
 ghost use Rattle.grouping.specs.Inside.{Room, pushes, Grouped};
@@ -15,9 +16,13 @@ use sums::cells;
 use sums::draws::Cursor;
 use sums::numbers;
 
-// The numbers of groups and of splits, or the number of the refusal.
+// The numbers of groups and of splits and the unplaced rows summed over the splits, or the number of the refusal.
 pub enum GroupingAnswer {
-    Accepted { groups: u32, splits: u32 },
+    Accepted {
+        groups: u32,
+        splits: u32,
+        unplaced: u32,
+    },
     // the refusal's number
     Refused(u32),
 }
@@ -43,6 +48,17 @@ fn push(waiting: &mut [u16], sizes: &[u16], top: usize, end: usize) -> usize
     t
 }
 
+// The acceptance that has these numbers.
+fn tell(groups: u32, splits: u32, unplaced: u32) -> GroupingAnswer
+    ensures { λ r. ⌜ r ≡ Accepted groups splits unplaced ⌝ }
+{
+    GroupingAnswer::Accepted {
+        groups,
+        splits,
+        unplaced,
+    }
+}
+
 // All rows wait as one group. The last waiting group is taken: listed where it is small enough, and split where it is not.
 pub fn group_rows(
     values: &[f32],
@@ -65,28 +81,27 @@ pub fn group_rows(
         Grouped (grouping rule (config .limit) (config .budget)) (length (now (order .entry))) r (now (order .exit)) (now (ends .exit))) ⌝ }
 {
     let rows = order.len();
-    let limit = config.limit as usize;
-    let budget = config.budget;
     waiting[0] = rows as u16;
     let mut top = numbers::least(rows, 1);
     let mut groups = 0u32;
     let mut splits = 0u32;
+    let mut unplaced = 0u32;
     let mut start = 0usize;
     let mut cursor = Cursor::new();
     while 0 < top {
         let end = cells::wide(waiting[top - 1]);
         let size = end - start;
-        if size <= limit {
+        if size <= config.limit as usize {
             ends[groups as usize] = end as u16;
             groups += 1;
             top -= 1;
             start = end;
         } else if size < sizes.len() {
             return GroupingAnswer::Refused(6);
-        } else if splits == budget {
+        } else if splits == config.budget {
             return GroupingAnswer::Refused(7);
         } else {
-            cursor = split::split_cluster(
+            let cut = split::split_cluster(
                 values,
                 dim,
                 rows,
@@ -98,9 +113,11 @@ pub fn group_rows(
                 gathered,
                 training,
             );
+            cursor = cut.cursor;
             top = push(waiting, sizes, top - 1, end);
             splits += 1;
+            unplaced += cut.unplaced;
         }
     }
-    GroupingAnswer::Accepted { groups, splits }
+    tell(groups, splits, unplaced)
 }

@@ -18,8 +18,8 @@ use Rattle.sums.specs.Cells.{Below}
 use Rattle.sums.proofs.Rows.{rows-length}
 use Rattle.sums.proofs.Fronts.{drop-take, part-of-front}
 use Rattle.sums.proofs.Belows.{below-take}
-use Rattle.labels.specs.declared.nearest.Nearest.{Nearest}
-use Rattle.labels.specs.Label.{nearest, nearests, labelsOf, distancesOf}
+use Rattle.labels.specs.declared.nearest.Placement.{Placement}
+use Rattle.labels.specs.Label.{nearest, nearests, labelIn, labelsOf, distancesOf}
 use Rattle.labels.specs.Inside.{normsOf}
 use Rattle.labels.specs.Pool.{pool}
 use Rattle.labels.proofs.Promises.{label-below}
@@ -64,11 +64,11 @@ pub one-row : {A : Type 0} (row : List A) → rowsFrom (length row) 1 row ≡ ro
 unfolding rowsFrom
 one-row row = rw (take-all (length row) row (omega arith))
 
-pub label-one : (centroids : List Row) (row : Row) (labels : List ℕ) → labels ≡ labelsOf (nearests centroids (rowsFrom (length row) 1 row)) → getD labels 0 0 ≡ nearest centroids row .label
+pub label-one : (centroids : List Row) (row : Row) (labels : List ℕ) → labels ≡ labelsOf (nearests centroids (rowsFrom (length row) 1 row)) → getD labels 0 0 ≡ labelIn (nearest centroids row)
 unfolding nearests
 label-one centroids row labels e = rw (e, one-row row)
 
-pub label-below-one : (dim k : ℕ) (centroids : List Float) (row : Row) → 0 < k → nearest (rowsFrom dim k centroids) row .label < k
+pub label-below-one : (dim k : ℕ) (centroids : List Float) (row : Row) → 0 < k → labelIn (nearest (rowsFrom dim k centroids) row) < k
 unfolding nearests
 label-below-one dim k centroids row h =
     let b = label-below (rowsFrom dim k centroids) (row ∷ []) (rw (rows-length dim k centroids) h) 0 (omega arith) in
@@ -149,21 +149,21 @@ module _ {k dim block count : ℕ} {row sum : Row} {spare : List ℕ} (a : Alike
   unfolding adds
   the-sum = ap (λ (l : List Row). getD l 0 []) (sym (sums-one (zeroRow dim ∷ []) count 0 row (omega arith)) ∙ a .summed)
 
-  pub alike-update : (draws : List ℕ) (centroids : List Row) (n : ℕ) → nearest centroids row .label < k
-      → let c = nearest centroids row .label in
+  pub alike-update : (draws : List ℕ) (centroids : List Row) (n : ℕ) → labelIn (nearest centroids row) < k
+      → let c = labelIn (nearest centroids row) in
       let counts = set (replicate k 0) c count in
       update draws k dim block (replicate count row) n (nearests centroids (replicate count row))
       ≡ record { centroids = updateFrom draws (row ∷ []) n spare counts (set (replicate k (zeroRow dim)) c sum); made = drawsAfter n spare counts }
   unfolding update nearests Only
   alike-update draws centroids n h =
-      let c : ℕ = nearest centroids row .label in
+      let c : ℕ = labelIn (nearest centroids row) in
       let rows : List Row = replicate count row in
-      let found : List Nearest = nearests centroids rows in
+      let found : List Placement = nearests centroids rows in
       let counts : List ℕ = set (replicate k 0) c count in
       let sums : List Row = set (replicate k (zeroRow dim)) c sum in
       let far : List ℕ = pool block (distancesOf found) in
       let f : found ≡ replicate count (nearest centroids row) = map-one (nearest centroids) count row in
-      let labelled : labelsOf found ≡ replicate count c = rw f (map-one (λ m. m .label) count (nearest centroids row)) in
+      let labelled : labelsOf found ≡ replicate count c = rw f (map-one labelIn count (nearest centroids row)) in
       let lc : c < length {A = ℕ} (replicate k 0) = rw (length-replicate {A = ℕ} k 0) h in
       let ls : c < length (replicate k (zeroRow dim)) = rw (length-replicate k (zeroRow dim)) h in
       let z : getD (replicate k 0) c 0 + count ≡ count = rw (getD-replicate {A = ℕ} k c 0 0 h) (omega arith) in
@@ -181,7 +181,7 @@ module _ {k dim block count : ℕ} {row sum : Row} {spare : List ℕ} (a : Alike
       (ap (drawsAfter n far) counted ∙ (sym (after-cut n k far counts few) ∙ after-alike n (take k far) spare counts held))
 
   -- so the update with that label's counts and sums is the iteration's
-  pub alike-drawn : {draws : List ℕ} {cursor r : Cursor} (centroids : List Row) {rows : List Row} (c : ℕ) {counts : List ℕ} {totals : List Row} → c ≡ nearest centroids row .label → c < k
+  pub alike-drawn : {draws : List ℕ} {cursor r : Cursor} (centroids : List Row) {rows : List Row} (c : ℕ) {counts : List ℕ} {totals : List Row} → c ≡ labelIn (nearest centroids row) → c < k
       → counts ≡ set (replicate k 0) c count → totals ≡ set (replicate k (zeroRow dim)) c sum
       → Drawn draws cursor r rows (λ n. updateFrom draws (row ∷ []) n spare counts totals) (λ n. drawsAfter n spare counts)
       → Drawn draws cursor r rows (λ n. update draws k dim block (replicate count row) n (nearests centroids (replicate count row)) .centroids)

@@ -91,7 +91,7 @@ module _ (rows dim k : ℕ) (config : KMeansConfig) (draws : List ℕ) (values :
   pub gives-run : (cursor : Cursor) (r : Kept) (labels : List ℕ) (centroids : List Float) → kmeansRefusal rows dim k config (length draws) (length values) (labelCells ∷ centroidCells ∷ trainingCells ∷ []) ≡ 0
       → cursor ≡ cursorAt draws 0 → length labels ≡ labelCells → length centroids ≡ centroidCells
       → Ran draws config k dim (rowsFrom dim labelCells values) cursor r labels (rowsFrom dim k centroids)
-      → Gives (kmeansCall rows dim k config draws values (labelCells ∷ centroidCells ∷ trainingCells ∷ [])) labelCells centroidCells (Accepted (r .objective) (r .restart)) labels centroids
+      → Gives (kmeansCall rows dim k config draws values (labelCells ∷ centroidCells ∷ trainingCells ∷ [])) labelCells centroidCells (Accepted (r .objective) (r .restart) (r .unplaced)) labels centroids
   unfolding kmeansCall unless onAccepted cellsOf
   gives-run cursor r labels centroids e s l c g =
       let f = fitting rows dim k config (length draws) (length values) labelCells centroidCells trainingCells e in

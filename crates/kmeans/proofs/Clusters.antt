@@ -9,7 +9,7 @@ use lib.ListN.{length, length-map}
 use Rattle.sums.specs.Rows.{Row, rowsAt}
 use Rattle.sums.specs.Cells.{Below}
 use Rattle.sums.specs.Draws.{pick}
-use Rattle.labels.proofs.Promises.{label-count, label-below}
+use Rattle.labels.proofs.Promises.{label-count, label-below, count-most}
 use Rattle.kmeans.specs.declared.config.KMeansConfig.{KMeansConfig}
 use Rattle.kmeans.specs.declared.config.Plan.{Plan}
 use Rattle.kmeans.specs.Steps.{target, trainingIf}
@@ -66,3 +66,26 @@ kmeans-clustered draws n config k dim rows h =
     let long : length (rowsAt rows numbers) ≡ aim
     = length-map numbers _ ∙ training-length draws n aim (length rows) (target-within k (config .«max_points_per_centroid») (length rows) h) in
     of-clustered draws (planOf config k dim) (rowsAt rows numbers) rows (rw long (target-enough k (config .«max_points_per_centroid») (length rows))) (config .nredo - 1) _
+
+-- ---- no result has more unplaced rows than there are rows
+few-kept : (m : ℕ) (new old : Result) → new .unplaced ≤ m → old .unplaced ≤ m → keepBetter new old .unplaced ≤ m
+unfolding keepBetter
+few-kept m new old p q = go (lt (new .objective) (old .objective))
+  where
+    go : (t : Bool) → cond t new old .unplaced ≤ m
+    go true = p
+    go false = q
+
+few-result : (rows : List Row) (number : ℕ) (centroids : List Row) → resultOf rows number centroids .unplaced ≤ length rows
+unfolding resultOf
+few-result rows number centroids = count-most centroids rows
+
+few-from : (draws : List ℕ) (plan : Plan) (training rows : List Row) (left number : ℕ) (run : Run) → run .result .unplaced ≤ length rows
+    → restartsFrom draws plan training rows left number run .result .unplaced ≤ length rows
+unfolding restartsFrom
+few-from draws plan training rows zero number run h = h
+few-from draws plan training rows (suc left) number run h = few-from draws plan training rows left (suc number) _ (few-kept (length rows) _ _ (few-result rows number _) h)
+
+pub kmeans-few : (draws : List ℕ) (n : ℕ) (config : KMeansConfig) (k dim : ℕ) (rows : List Row) → kmeans draws n config k dim rows .result .unplaced ≤ length rows
+unfolding kmeans restartsOf
+kmeans-few draws n config k dim rows = few-from draws _ _ rows (config .nredo - 1) 1 _ (few-result rows 0 _)

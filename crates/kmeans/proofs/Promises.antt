@@ -21,7 +21,7 @@ use Rattle.kmeans.specs.declared.call.KMeansAnswer.the-variants.{Accepte
 use Rattle.kmeans.specs.KMeans.{Result, kmeans}
 use Rattle.kmeans.specs.Call.{rangesFit, lengthsFit, kmeansRefusal, kmeansCall, told, Gives}
 use Rattle.kmeans.proofs.Calls.{fitting}
-use Rattle.kmeans.proofs.Clusters.{kmeans-clustered}
+use Rattle.kmeans.proofs.Clusters.{kmeans-clustered, kmeans-few}
 
 -- ---- every row has a label, and where there is a cluster every label is a cluster's number
 pub labels-below : (draws : List ℕ) (n : ℕ) (config : KMeansConfig) (k dim : ℕ) (rows : List Row) → 0 < k → k ≤ length rows
@@ -32,13 +32,17 @@ labels-below draws n config k dim rows some h = let c = kmeans-clustered draws n
 pub centroids-sized : (draws : List ℕ) (n : ℕ) (config : KMeansConfig) (k dim : ℕ) (rows : List Row) → k ≤ length rows → length (kmeans draws n config k dim rows .result .centroids) ≡ k
 centroids-sized draws n config k dim rows h = kmeans-clustered draws n config k dim rows h .centred
 
+-- ---- the rows that the restart kept leaves unplaced are no more than the rows
+pub unplaced-most : (draws : List ℕ) (n : ℕ) (config : KMeansConfig) (k dim : ℕ) (rows : List Row) → kmeans draws n config k dim rows .result .unplaced ≤ length rows
+unplaced-most draws n config k dim rows = kmeans-few draws n config k dim rows
+
 -- ---- the answer and every cell follow from the call alone: any two results that a call may give are the same, the work slice too
 told-once : (r r′ : KMeansAnswer) → told r ≡ told r′ → r ≡ r′
-told-once (Accepted o n) (Accepted o′ n′) e =
-    let z : _≡_ {A = Float × ℕ} (o, n) (o′, n′) = cc in
-    rw (ap (λ (f : Float × ℕ). f .0) z, ap (λ (f : Float × ℕ). f .1) z)
-told-once (Accepted o n) (Refused number) e = let z : _≡_ {A = ℕ} 0 1 = cc in absurd (omega arith)
-told-once (Refused number) (Accepted o n) e = let z : _≡_ {A = ℕ} 0 1 = cc in absurd (omega arith)
+told-once (Accepted o n u) (Accepted o′ n′ u′) e =
+    let z : _≡_ {A = Float × ℕ × ℕ} (o, n, u) (o′, n′, u′) = cc in
+    rw (ap (λ (f : Float × ℕ × ℕ). f .0) z, ap (λ (f : Float × ℕ × ℕ). f .1) z, ap (λ (f : Float × ℕ × ℕ). f .2) z)
+told-once (Accepted o n u) (Refused number) e = let z : _≡_ {A = ℕ} 0 1 = cc in absurd (omega arith)
+told-once (Refused number) (Accepted o n u) e = let z : _≡_ {A = ℕ} 0 1 = cc in absurd (omega arith)
 told-once (Refused number) (Refused number′) e = let z : number ≡ number′ = cc in rw z
 
 pub one-answer : {answer : Answer Result} {l c : ℕ} {r r′ : KMeansAnswer} {labels labels′ : List ℕ} {centroids centroids′ : List Float}
@@ -60,13 +64,14 @@ module _ (rows dim k : ℕ) (config : KMeansConfig) (draws : List ℕ) (values :
   answer = kmeans draws 0 config k dim (rowsFrom dim rows values) .result
 
   -- what a caller reads in the cells of a call that is told `Accepted`: a label below k for each row, and the values of k centroids
-  pub cells-below : (objective : Float) (restart : ℕ) (labels : List ℕ) (centroids : List Float) → Gives call labelCells centroidCells (Accepted objective restart) labels centroids
+  pub cells-below : (objective : Float) (restart unplaced : ℕ) (labels : List ℕ) (centroids : List Float)
+      → Gives call labelCells centroidCells (Accepted objective restart unplaced) labels centroids
       → ((length labels ≡ rows) × Below k labels) × (length centroids ≡ k * dim)
   unfolding kmeansCall unless onAccepted cellsOf
-  cells-below objective restart labels centroids given = go (kmeansRefusal rows dim k config (length draws) (length values) lent) refl (given .result) (given .labelled) (given .centred)
+  cells-below objective restart unplaced labels centroids given = go (kmeansRefusal rows dim k config (length draws) (length values) lent) refl (given .result) (given .labelled) (given .centred)
     where
       go : (number : ℕ) → kmeansRefusal rows dim k config (length draws) (length values) lent ≡ number
-          → told (Accepted objective restart) ≡ onAccepted (λ (a : Result). (a .objective, a .restart)) (unless number (accepted answer))
+          → told (Accepted objective restart unplaced) ≡ onAccepted (λ (a : Result). (a .objective, a .restart, a .unplaced)) (unless number (accepted answer))
           → labels ≡ cellsOf blankCell labelCells (λ (a : Result). a .labels) (unless number (accepted answer))
           → centroids ≡ cellsOf zero32 centroidCells (λ (a : Result). flatten (a .centroids)) (unless number (accepted answer))
           → ((length labels ≡ rows) × Below k labels) × (length centroids ≡ k * dim)

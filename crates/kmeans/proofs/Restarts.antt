@@ -6,7 +6,7 @@ use mathlib.Core.List.{List}
 use native.Mathlib.Numerals.{add-one}
 use native.Mathlib.Omega.{arith}
 use lib.Dec.{eqb}
-use lib.Ieee.{Float, lt}
+use lib.Ieee.{lt}
 use lib.ListN.{length, take}
 use Rattle.sums.specs.declared.draws.Cursor.{Cursor}
 use Rattle.sums.specs.Rows.{Row, rowsAt}
@@ -15,6 +15,7 @@ use Rattle.sums.specs.Draws.{cursorAt, pick, exchangesFrom, Drawn}
 use Rattle.kmeans.specs.declared.config.KMeansConfig.{KMeansConfig}
 use Rattle.kmeans.specs.declared.config.Plan.{Plan}
 use Rattle.kmeans.specs.declared.restart.Kept.{Kept}
+use Rattle.kmeans.specs.declared.restart.Scored.{Scored}
 use Rattle.kmeans.specs.Steps.{target, trainingIf}
 use Rattle.kmeans.specs.KMeans.{Run, kmeans, planOf, firstFit, keepBetter, resultOf, fitOf, restartsFrom, restartsOf}
 use Rattle.kmeans.specs.Inside.{Fitted, Restarted, Finished, heldOf}
@@ -68,32 +69,32 @@ ran draws config k dim aim m training rows cursor next r labels centroids e t s 
 
 module _ (draws : List ℕ) (plan : Plan) (training rows : List Row) where
   -- ---- the first restart
-  pub begun : (cursor : Cursor) (labels : List ℕ) (centroids : List Row) (next : Cursor) (objective : Float)
-      → Restarted draws plan training cursor centroids next → Finished rows centroids labels objective
-      → Begun draws plan training rows cursor (record { objective = objective; restart = 0; cursor = next }) labels centroids
+  pub begun : (cursor : Cursor) (labels : List ℕ) (centroids : List Row) (next : Cursor) (scored : Scored)
+      → Restarted draws plan training cursor centroids next → Finished rows centroids labels scored
+      → Begun draws plan training rows cursor (record { objective = scored .objective; restart = 0; unplaced = scored .unplaced; cursor = next }) labels centroids
   unfolding resultOf
-  begun cursor labels centroids next objective s f = record {
+  begun cursor labels centroids next scored s f = record {
     inside = s .inside;
-    steps = λ n p. let w = s .steps n p in (rw (← w .0, ← f .1, ← f .0), w .1);
+    steps = λ n p. let w = s .steps n p in (rw (← w .0, ← f .1 .0, ← f .1 .1, ← f .0), w .1);
   }
 
   -- ---- one restart more
-  module _ (number : ℕ) (best : Kept) (labels₀ labels : List ℕ) (centroids₀ centroids : List Row) (next : Cursor) (objective : Float)
-      (s : Restarted draws plan training (best .cursor) centroids next) (f : Finished rows centroids labels objective) where
-    pub tried-better : lt objective (best .objective) ≡ true
-        → Tried draws plan training rows number best (record { objective = objective; restart = number; cursor = next }) labels₀ labels centroids₀ centroids
+  module _ (number : ℕ) (best : Kept) (labels₀ labels : List ℕ) (centroids₀ centroids : List Row) (next : Cursor) (scored : Scored)
+      (s : Restarted draws plan training (best .cursor) centroids next) (f : Finished rows centroids labels scored) where
+    pub tried-better : lt (scored .objective) (best .objective) ≡ true
+        → Tried draws plan training rows number best (record { objective = scored .objective; restart = number; unplaced = scored .unplaced; cursor = next }) labels₀ labels centroids₀ centroids
     unfolding keepBetter resultOf
     tried-better h = record {
       inside = s .inside;
-      steps = λ n p. let w = s .steps n p in (rw (← w .0, ← f .1, h, ← f .0), w .1);
+      steps = λ n p. let w = s .steps n p in (rw (← w .0, ← f .1 .0, h, ← f .1 .1, ← f .0), w .1);
     }
 
-    pub tried-kept : lt objective (best .objective) ≡ false
-        → Tried draws plan training rows number best (record { objective = best .objective; restart = best .restart; cursor = next }) labels₀ labels₀ centroids₀ centroids₀
+    pub tried-kept : lt (scored .objective) (best .objective) ≡ false
+        → Tried draws plan training rows number best (record { objective = best .objective; restart = best .restart; unplaced = best .unplaced; cursor = next }) labels₀ labels₀ centroids₀ centroids₀
     unfolding keepBetter resultOf
     tried-kept h = record {
       inside = s .inside;
-      steps = λ n p. let w = s .steps n p in (rw (← w .0, ← f .1, h), w .1);
+      steps = λ n p. let w = s .steps n p in (rw (← w .0, ← f .1 .0, h), w .1);
     }
 
 -- ---- the restarts in turn

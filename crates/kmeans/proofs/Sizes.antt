@@ -6,7 +6,7 @@ use native.Mathlib.Nat.{suc-inj, suc-ne-zero}
 use lib.ListN.{length, replicate, length-set, length-replicate}
 use Rattle.sums.specs.Rows.{Row}
 use Rattle.sums.specs.Sums.{zeroRow}
-use Rattle.labels.specs.declared.nearest.Nearest.{Nearest}
+use Rattle.labels.specs.declared.nearest.Placement.{Placement}
 use Rattle.labels.specs.Label.{nearests}
 use Rattle.kmeans.specs.Steps.{Fit, countsFrom, sumsFrom, updateFrom, update, iterate}
 
@@ -30,7 +30,7 @@ from-length draws training n (p ∷ pool) (zero ∷ counts) (s ∷ sums) h = ap 
 from-length draws training n [] (zero ∷ counts) (s ∷ sums) h = ap suc (from-length draws training (suc n) [] counts sums (suc-inj h))
 
 module _ (draws : List ℕ) (k dim block : ℕ) (training : List Row) where
-  update-length : (n : ℕ) (found : List Nearest) → length (update draws k dim block training n found .centroids) ≡ k
+  update-length : (n : ℕ) (found : List Placement) → length (update draws k dim block training n found .centroids) ≡ k
   unfolding update
   update-length n found =
       let c = counts-length (replicate k 0) _ ∙ length-replicate k 0 in

@@ -19,7 +19,8 @@ use Rattle.labels.specs.Label.{nearests}
 use Rattle.labels.specs.Pool.{pool}
 use Rattle.sums.specs.Sums.{zeroRow}
 use Rattle.sums.proofs.Refusing.{same-is, both}
-use Rattle.labels.proofs.Assigns.{Assigned}
+use Rattle.labels.specs.declared.nearest.Tally.{Tally}
+use Rattle.labels.specs.Inside.{Assigned}
 use Rattle.kmeans.specs.declared.config.Plan.{Plan}
 use Rattle.kmeans.specs.declared.lloyd.Iterated.{Iterated}
 use Rattle.kmeans.specs.Steps.{Fit, refit, update, iterate, updateFrom, drawsAfter, countsFrom, sumsFrom, timesInverse}
@@ -125,8 +126,8 @@ PoolFor filled distances block cap r at = ((r ≤ length at) × Below (length di
 pub same-fit : (f : Fit) (c : List Row) (n : ℕ) → f .centroids ≡ c → f .made ≡ n → f ≡ record { centroids = c; made = n }
 same-fit f c n p q = rw (← p, ← q)
 
-module _ (draws : List ℕ) (plan : Plan) (training centroids : List Row) (labels₀ labels : List ℕ) (distances : List Float) (same : Bool) (counts : List ℕ) (totals : List Row)
-    (a : Assigned centroids training labels₀ labels distances same) (s : Summed (plan .dim) (plan .k) labels training counts totals) (before : Iterated) (again : Bool) where
+module _ (draws : List ℕ) (plan : Plan) (training centroids : List Row) (labels₀ labels : List ℕ) (distances : List Float) (tally : Tally) (counts : List ℕ) (totals : List Row)
+    (a : Assigned (nearests centroids training) labels₀ labels distances tally) (s : Summed (plan .dim) (plan .k) labels training counts totals) (before : Iterated) (again : Bool) where
   -- the positions at hand serve as the whole pool does: they are its first, or no cluster is empty
   pool-serves : (filled : Bool) (cap r : ℕ) (at : List ℕ) → (filled ≡ true → Filled counts) → PoolFor filled distances (plan .block) cap r at → length counts ≤ cap → (n : ℕ)
       → (updateFrom draws training n (take r at) counts totals ≡ updateFrom draws training n (pool (plan .block) distances) counts totals)
@@ -145,25 +146,25 @@ module _ (draws : List ℕ) (plan : Plan) (training centroids : List Row) (label
     serves n =
         let v = pool-serves filled (plan .k) used at f p (omega arith) n in
         let u : Fit = update draws (plan .k) (plan .dim) (plan .block) training n (nearests centroids training) in
-        let x : updateFrom draws training n (take used at) counts totals ≡ u .centroids = v .0 ∙ rw (s .0, s .1, a .0, a .1 .0) in
-        let y : drawsAfter n (take used at) counts ≡ u .made = v .1 ∙ rw (s .0, a .0, a .1 .0) in
+        let x : updateFrom draws training n (take used at) counts totals ≡ u .centroids = v .0 ∙ rw (s .0, s .1, a .labelled, a .measured) in
+        let y : drawsAfter n (take used at) counts ≡ u .made = v .1 ∙ rw (s .0, a .labelled, a .measured) in
         same-fit _ _ _ (sym (rw (s .0, s .1) at x)) (sym (rw (s .0) at y))
 
-    pub iteration-stops : (again ≡ true) × ((same ≡ true) × (repeats counts (take used at) (take (before .held) at₀) ≡ true))
+    pub iteration-stops : (again ≡ true) × ((tally .same ≡ true) × (repeats counts (take used at) (take (before .held) at₀) ≡ true))
         → Iteration draws plan training centroids centroids labels₀ labels at₀ at before (record { settled = true; cursor = before .cursor; held = used }) again
     iteration-stops h = record {
-      labelled = a .0;
+      labelled = a .labelled;
       held-fits = p .0 .0;
       leads = serves;
       goes = λ e. absurd (false≢true (sym e));
-      stops = λ e. (h .0, (sym (same-is labels₀ labels (sym (a .1 .1) ∙ h .1 .0)), rw (s .0) at (h .1 .1)));
+      stops = λ e. (h .0, (sym (same-is labels₀ labels (sym (a .same) ∙ h .1 .0)), rw (s .0) at (h .1 .1)));
       stays = λ e. (refl, refl);
     }
 
     pub iteration-goes : (centroids' : List Row) (r : Cursor) → Updated draws training (take used at) counts totals (before .cursor) r centroids'
         → Iteration draws plan training centroids centroids' labels₀ labels at₀ at before (record { settled = false; cursor = r; held = used }) again
     iteration-goes centroids' r u = record {
-      labelled = a .0;
+      labelled = a .labelled;
       held-fits = p .0 .0;
       leads = serves;
       goes = λ e. rw (s .0, s .1) at u;

@@ -12,7 +12,7 @@ use Rattle.sums.specs.Refusals.{Answer, accepted, refused, within, sameAll, low
 use Rattle.kmeans.specs.declared.config.KMeansConfig.{KMeansConfig}
 use Rattle.kmeans.specs.declared.call.KMeansAnswer.{KMeansAnswer}
 use Rattle.kmeans.specs.declared.call.KMeansAnswer.the-variants.{Accepted, Refused}
-use Rattle.kmeans.specs.KMeans.{Result, Run, kmeans}
+use Rattle.kmeans.specs.KMeans.{Result, kmeans}
 
 -- the lengths of what is lent: the labels and the centroids; then the work slice, in docs/BUFFERS.md's order
 abbrev pub lengthsOf : ℕ → ℕ → ℕ → List ℕ
@@ -36,13 +36,13 @@ kmeansCall rows dim k config draws values lent =
     unless (kmeansRefusal rows dim k config (length draws) (length values) lent)
     (accepted (kmeans draws 0 config k dim (rowsFrom dim rows values) .result))
 
--- each case of the code's enum in 01's terms: the objective and the number of the restart kept, or the refusal's number
-abbrev pub told : KMeansAnswer → Answer (Float × ℕ)
-told (Accepted objective restart) = accepted (objective, restart)
+-- each case of the code's enum in 01's terms: the objective, the number of the restart kept and its unplaced rows, or the refusal's number
+abbrev pub told : KMeansAnswer → Answer (Float × ℕ × ℕ)
+told (Accepted objective restart unplaced) = accepted (objective, restart, unplaced)
 told (Refused number) = refused number
 
 -- a call's whole result: the answer, and both result slices
 pub record Gives (answer : Answer Result) (labelCells centroidCells : ℕ) (r : KMeansAnswer) (labels : List ℕ) (centroids : List Float) : Type 0 where
-  pub result : told r ≡ onAccepted (λ (a : Result). (a .objective, a .restart)) answer
+  pub result : told r ≡ onAccepted (λ (a : Result). (a .objective, a .restart, a .unplaced)) answer
   pub labelled : labels ≡ cellsOf blankCell labelCells (λ (a : Result). a .labels) answer
   pub centred : centroids ≡ cellsOf zero32 centroidCells (λ (a : Result). flatten (a .centroids)) answer

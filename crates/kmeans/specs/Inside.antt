@@ -12,11 +12,12 @@ use Rattle.sums.specs.Cells.{Below}
 use Rattle.sums.specs.declared.draws.Cursor.{Cursor}
 use Rattle.sums.specs.Draws.{Drawn}
 use Rattle.labels.specs.Inside.{normsOf}
-use Rattle.labels.specs.Label.{nearests, labelsOf}
+use Rattle.labels.specs.Label.{nearests, labelsOf, unplacedOf}
 use Rattle.labels.specs.Pool.{pool}
 use Rattle.kmeans.specs.declared.config.Plan.{Plan}
 use Rattle.kmeans.specs.declared.lloyd.Iterated.{Iterated}
 use Rattle.kmeans.specs.declared.restart.Kept.{Kept}
+use Rattle.kmeans.specs.declared.restart.Scored.{Scored}
 use Rattle.kmeans.specs.Steps.{Fit, countsFrom, sumsFrom, refit, update, iterate, objectiveFrom}
 use Rattle.kmeans.specs.KMeans.{Result, fitOf}
 
@@ -105,11 +106,12 @@ pub record Alike (k dim block count : ℕ) (row sum : Row) (spare : List ℕ) : 
 abbrev pub Restarted : List ℕ → Plan → List Row → Cursor → List Row → Cursor → Type 0
 Restarted draws plan training cursor centroids r = Drawn draws cursor r centroids (λ n. fitOf draws plan training n .centroids) (λ n. fitOf draws plan training n .made)
 
--- all rows labelled by the centroids, and their objective (01, 'K-means' step 4)
-abbrev pub Finished : List Row → List Row → List ℕ → Float → Type 0
-Finished rows centroids labels objective =
-    let found = labelsOf (nearests centroids rows) in (labels ≡ found) × (objective ≡ objectiveFrom zero32 centroids found rows)
+-- all rows labelled by the centroids, their objective (01, 'K-means' step 4), and how many are unplaced
+abbrev pub Finished : List Row → List Row → List ℕ → Scored → Type 0
+Finished rows centroids labels r =
+    let found = nearests centroids rows in
+    (labels ≡ labelsOf found) × ((r .objective ≡ objectiveFrom zero32 centroids (labelsOf found) rows) × (r .unplaced ≡ unplacedOf found))
 
 -- the result that the code holds, as the definitions have it
 abbrev pub heldOf : List ℕ → List Row → Kept → Result
-heldOf labels centroids kept = record { labels = labels; centroids = centroids; objective = kept .objective; restart = kept .restart }
+heldOf labels centroids kept = record { labels = labels; centroids = centroids; objective = kept .objective; restart = kept .restart; unplaced = kept .unplaced }

@@ -8,7 +8,7 @@ use lib.Ieee.{Float, lt}
 use Rattle.sums.specs.Rows.{Row, rowsAt}
 use Rattle.sums.specs.Sums.{zero32}
 use Rattle.sums.specs.Draws.{pick}
-use Rattle.labels.specs.Label.{nearests, labelsOf}
+use Rattle.labels.specs.Label.{nearests, labelsOf, unplacedOf}
 use Rattle.kmeans.specs.Steps.{target, trainingIf, Fit, iterate, objectiveFrom}
 use Rattle.kmeans.specs.declared.config.KMeansConfig.{KMeansConfig}
 use Rattle.kmeans.specs.declared.config.Plan.{Plan}
@@ -22,8 +22,9 @@ forGrouping = record { niter = 100; nredo = 1; «max_points_per_centroid» = 256
 
 -- ---- step 2: one restart
 
+-- what a restart gives: with its number, how many rows its final labelling leaves unplaced (02 (ii))
 abbrev pub Result : Type 0
-Result = record { labels : List ℕ; centroids : List Row; objective : Float; restart : ℕ }
+Result = record { labels : List ℕ; centroids : List Row; objective : Float; restart : ℕ; unplaced : ℕ }
 
 -- k training positions picked as centroids, in picked order
 unfoldable pub firstFit : List ℕ → ℕ → List Row → ℕ → Fit
@@ -40,8 +41,9 @@ fitOf draws plan training n = iterate draws (plan .k) (plan .dim) (plan .block) 
 -- all rows labelled by the centroids of the restart given, and the objective
 unfoldable pub resultOf : List Row → ℕ → List Row → Result
 resultOf rows number centroids =
-    let labels = labelsOf (nearests centroids rows) in
-    record { labels = labels; centroids = centroids; objective = objectiveFrom zero32 centroids labels rows; restart = number }
+    let found = nearests centroids rows in
+    let labels = labelsOf found in
+    record { labels = labels; centroids = centroids; objective = objectiveFrom zero32 centroids labels rows; restart = number; unplaced = unplacedOf found }
 
 -- ---- step 5: the restart kept, and the draws made
 

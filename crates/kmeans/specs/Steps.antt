@@ -9,7 +9,7 @@ use Rattle.sums.specs.Rows.{Row}
 use Rattle.sums.specs.Sums.{one32, count32, spreadOf, addRow, zeroRow}
 use Rattle.sums.specs.Ordering.{ascending}
 use Rattle.sums.specs.Draws.{drawn, pick}
-use Rattle.labels.specs.declared.nearest.Nearest.{Nearest}
+use Rattle.labels.specs.declared.nearest.Placement.{Placement}
 use Rattle.labels.specs.Label.{nearests, labelsOf, distancesOf}
 use Rattle.labels.specs.Pool.{pool}
 
@@ -68,7 +68,7 @@ refit draws k dim training n far labels =
     record { centroids = updateFrom draws training n far counts (sumsFrom (replicate k (zeroRow dim)) labels training); made = drawsAfter n far counts }
 
 -- the centroids after the labels found; the pool alone knows blocks
-unfoldable pub update : List ℕ → ℕ → ℕ → ℕ → List Row → ℕ → List Nearest → Fit
+unfoldable pub update : List ℕ → ℕ → ℕ → ℕ → List Row → ℕ → List Placement → Fit
 update draws k dim block training n found = refit draws k dim training n (pool block (distancesOf found)) (labelsOf found)
 
 -- the iterations left; none is left out

@@ -8,9 +8,8 @@ ghost use lib.ListN.{length, set, take, replicate};
 ghost use lib.Ieee.{Float};
 ghost use Rattle.sums.specs.Rows.{rowsFrom};
 ghost use Rattle.sums.specs.Sums.{zeroRow};
-ghost use Rattle.sums.specs.Cells.{Below};
 ghost use Rattle.sums.specs.Draws.{Drawn};
-ghost use Rattle.labels.specs.Label.{nearest as Label·nearest, nearests};
+ghost use Rattle.labels.specs.Label.{nearest as Label·nearest, nearests, labelIn};
 ghost use Rattle.labels.specs.Inside.{normsOf};
 ghost use Rattle.labels.specs.Pool.{pool as Pool·pool};
 ghost use Rattle.kmeans.specs.Steps.{Fit, sumsFrom, update as Steps·update};
@@ -53,7 +52,7 @@ pub fn rows_alike(training: &[f32], dim: usize, rows: usize) -> bool
 fn label_of(row: &[f32], norm: &[f32], centroids: &[f32], k: usize) -> usize
     requires { ⌜ Limits (length (now row)) k 1 × ((length (now centroids) ≡ k * length (now row)) × (now norm ≡ normsOf (now row ∷ []))) ⌝ }
     ensures { λ r. ⌜ (let clusters = rowsFrom (length (now (row .entry))) k (now (centroids .entry)) in
-        (r ≡ Label·nearest clusters (now (row .entry)) .label) × (r < k)) ⌝ }
+        (r ≡ labelIn (Label·nearest clusters (now (row .entry)))) × (r < k)) ⌝ }
 {
     let dim = row.len();
     let mut label = [0u16; 1];

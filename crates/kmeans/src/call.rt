@@ -1,23 +1,24 @@
 // The k-means call, whole: any call is answered, with an objective or with the number of its refusal.
 ghost use mathlib.Core.Path.{_≡_};
-ghost use mathlib.Core.Bool.{_&&_};
 ghost use mathlib.Core.List.{[], _∷_};
 ghost use Prim.Native.Nat.{_*_, _≤_, _<_};
-ghost use lib.Dec.{eqb};
 ghost use lib.ListN.{length, replicate};
 ghost use Rattle.sums.specs.Sums.{zero32};
 ghost use Rattle.sums.specs.Refusals.{Cleared};
 ghost use Rattle.kmeans.specs.Call.{rangesFit, lengthsFit, kmeansRefusal, kmeansCall, Gives};
 use crate::config::KMeansConfig;
 use crate::restart;
-use crate::restart::Kept;
 use sums::cells;
 use sums::checks;
 use sums::draws::Cursor;
 
-// Accepted with the objective and the number of the restart kept, or refused by number.
+// Accepted with the objective, the number of the restart kept and its unplaced rows, or refused by number.
 pub enum KMeansAnswer {
-    Accepted { objective: f64, restart: u32 },
+    Accepted {
+        objective: f64,
+        restart: u32,
+        unplaced: u32,
+    },
     // the refusal's number
     Refused(u32),
 }
@@ -114,6 +115,7 @@ fn answer(
     KMeansAnswer::Accepted {
         objective: kept.objective,
         restart: kept.restart,
+        unplaced: kept.unplaced,
     }
 }
 

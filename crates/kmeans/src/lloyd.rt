@@ -147,13 +147,13 @@ fn run_iteration(
     let cursor = before.cursor;
     let mut counts = [0u16; 64];
     let mut prior = [0u16; 64];
-    let same = nearest::assign_rows(training, norms, dim, centroids, k, labels, distances);
+    let tally = nearest::assign_rows(training, norms, dim, centroids, k, labels, distances);
     accumulate(training, dim, labels, &mut counts[..k], totals);
     let filled = all_filled(&counts[..k]);
     cells::copy_cells(&mut prior[..k], at);
     let n = pool_for(filled, distances, plan.block, at);
     let repeated = refills_repeat(&counts[..k], &at[..n], &prior[..held]);
-    if is_settled(again, same, repeated) {
+    if is_settled(again, tally.same, repeated) {
         return Iterated {
             settled: true,
             cursor,

@@ -18,10 +18,17 @@ use sums::draws::Cursor;
 use sums::numbers;
 use sums::rooms;
 
-// The restart kept so far, and the place in the draws.
+// What the final labelling of a restart comes to: the objective, and how many rows are unplaced.
+pub struct Scored {
+    pub objective: f64,
+    pub unplaced: u32,
+}
+
+// The restart kept so far, with its own unplaced rows, and the place in the draws.
 pub struct Kept {
     pub objective: f64,
     pub restart: u32,
+    pub unplaced: u32,
     pub cursor: Cursor,
 }
 
@@ -47,8 +54,8 @@ fn run_restart(
     iterations::run_lloyd_iterations(plan, training, norms, draws, next, centroids)
 }
 
-// All rows labelled by the centroids, and the objective.
-fn finish_restart(plan: Plan, values: &[f32], centroids: &[f32], labels: &mut [u16]) -> f64
+// All rows labelled by the centroids, the objective, and the rows that are unplaced.
+fn finish_restart(plan: Plan, values: &[f32], centroids: &[f32], labels: &mut [u16]) -> Scored
     requires { ⌜ Planned plan × ((length (now values) ≡ length (now labels) * plan .dim)
         × ((length (now labels) ≤ 4096) × (length (now centroids) ≡ plan .k * plan .dim))) ⌝ }
     ensures { λ r. ⌜ Finished (rowsFrom (plan .dim) (length (now (labels .entry))) (now (values .entry)))
@@ -58,7 +65,7 @@ fn finish_restart(plan: Plan, values: &[f32], centroids: &[f32], labels: &mut [u
     let mut norms = rooms::row_room();
     let mut distances = rooms::row_room();
     nearest::compute_norms(values, plan.dim, &mut norms[..rows]);
-    nearest::assign_rows(
+    let tally = nearest::assign_rows(
         values,
         &norms[..rows],
         plan.dim,
@@ -67,7 +74,11 @@ fn finish_restart(plan: Plan, values: &[f32], centroids: &[f32], labels: &mut [u
         labels,
         &mut distances[..rows],
     );
-    objective::compute_objective(values, plan.dim, centroids, plan.k, labels)
+    let objective = objective::compute_objective(values, plan.dim, centroids, plan.k, labels);
+    Scored {
+        objective,
+        unplaced: tally.unplaced as u32,
+    }
 }
 
 // The first restart: it is kept so far.
@@ -90,10 +101,11 @@ fn first_restart(
         (λ n. fitOf (now (draws .entry)) plan train n .made)) ⌝ }
 {
     let next = run_restart(plan, training, norms, draws, cursor, centroids);
-    let objective = finish_restart(plan, values, centroids, labels);
+    let scored = finish_restart(plan, values, centroids, labels);
     Kept {
-        objective,
+        objective: scored.objective,
         restart: 0,
+        unplaced: scored.unplaced,
         cursor: next,
     }
 }
@@ -125,19 +137,21 @@ fn try_restart(
     let mut trial = rooms::row_room();
     let mut trial_labels = rooms::cell_room();
     let next = run_restart(plan, training, norms, draws, from, &mut trial[..width]);
-    let objective = finish_restart(plan, values, &trial[..width], &mut trial_labels[..rows]);
-    if objective < best.objective {
+    let scored = finish_restart(plan, values, &trial[..width], &mut trial_labels[..rows]);
+    if scored.objective < best.objective {
         cells::copy_cells(labels, &trial_labels[..rows]);
         cells::copy(centroids, &trial[..width]);
         return Kept {
-            objective,
+            objective: scored.objective,
             restart: number,
+            unplaced: scored.unplaced,
             cursor: next,
         };
     }
     Kept {
         objective: best.objective,
         restart: best.restart,
+        unplaced: best.unplaced,
         cursor: next,
     }
 }

@@ -14,7 +14,7 @@ use Rattle.sums.specs.Rows.{Row}
 use Rattle.sums.specs.Sums.{infinity}
 use Rattle.sums.proofs.Floats.{le-lt-trans, lt-trans, lt-irrefl, not-true-false, lt-known}
 use Rattle.labels.specs.declared.nearest.Nearest.{Nearest}
-use Rattle.labels.specs.Label.{score, better, nearestFrom, nothingYet, nearest}
+use Rattle.labels.specs.Label.{score, better, nearestFrom, nothingYet, search}
 
 pub record FirstOf (scores : List Float) (r : Nearest) : Type 0 where
   -- no score is below the distance
@@ -93,9 +93,9 @@ from-below c m (s ∷ scores) best h b = from-below (suc c) m scores (better c s
     go true = omega arith
     go false = b
 
-pub nearest-below : (centroids : List Row) (row : Row) → 0 < length centroids → nearest centroids row .label < length centroids
-unfolding nearest
-nearest-below centroids row h = from-below 0 (length centroids) (map (score row) centroids) nothingYet (omega (arith, length-map centroids (score row))) h
+pub search-below : (centroids : List Row) (row : Row) → 0 < length centroids → search centroids row .label < length centroids
+unfolding search
+search-below centroids row h = from-below 0 (length centroids) (map (score row) centroids) nothingYet (omega (arith, length-map centroids (score row))) h
 
 -- ---- the distance of the nearest is never a NaN, as only what is below the best takes its place
 better-known : (cluster : ℕ) (s : Float) (best : Nearest) → isNan (best .distance) ≡ false → isNan (better cluster s best .distance) ≡ false

@@ -4,6 +4,7 @@ pub mod Searches
 pub mod Assigns
 pub mod Calls
 pub mod Firsts
+pub mod Places
 pub mod Promises
 pub mod Blocks
 pub mod Pools

@@ -1,9 +1,9 @@
 -- What labelling promises beyond its contracts: each promise in words, then as a law. Assumes nothing.
 use mathlib.Core.Path.{_≡_, refl, sym, ap, _∙_}
-use mathlib.Core.Bool.{Bool, true, false, _&&_}
+use mathlib.Core.Bool.{Bool, true, false, _&&_, cond, false≢true}
 use mathlib.Core.Logic.{_↔_, _⊎_, ⊎-elim, inl, inr}
 use mathlib.Core.List.{List, [], _∷_, map, map-map}
-use Prim.Native.Nat.{ℕ, zero, suc, _*_, _<_}
+use Prim.Native.Nat.{ℕ, zero, suc, _*_, _≤_, _<_}
 use native.Mathlib.Nat.{not-suc-le-zero, le-of-suc-le-suc}
 use native.Mathlib.Omega.{arith}
 use lib.Dec.{eqb}
@@ -11,133 +11,215 @@ use lib.ListN.{length, getD, length-map}
 use lib.Ieee.{Float, nan, lt, le, isNan}
 use Rattle.sums.specs.Rows.{Row, rowsFrom, rowAt}
 use Rattle.sums.specs.Cells.{Below}
-use Rattle.sums.specs.Sums.{infinity}
+use Rattle.sums.specs.Sums.{zero32, infinity}
 use Rattle.sums.specs.Refusals.{Answer, accepted, refused, within, unless, onAccepted, cellsOf, blankCell}
 use Rattle.sums.proofs.Tables.{map-index, length-tab, getD-tab}
 use Rattle.sums.proofs.Rows.{rows-length}
+use Rattle.sums.proofs.Floats.{lt-irrefl}
 use Rattle.labels.specs.declared.nearest.Nearest.{Nearest}
+use Rattle.labels.specs.declared.nearest.Placement.{Placement}
+use Rattle.labels.specs.declared.nearest.Placement.the-variants.{Placed, Unplaced}
 use Rattle.labels.specs.declared.call.LabelAnswer.{LabelAnswer}
 use Rattle.labels.specs.declared.call.LabelAnswer.the-variants.{Labelled}
-use Rattle.labels.specs.Label.{score, nothingYet, nearest, nearests, labelsOf, distancesOf}
+use Rattle.labels.specs.Label.{score, nothingYet, search, placement, nearest, nearests, labelIn, distanceIn, labelsOf, distancesOf, unplacedOf}
 use Rattle.labels.specs.Call.{labelRefusal, labelCall, told, Gives}
 use Rattle.sums.proofs.Refusing.{padded-all}
 use Rattle.sums.proofs.Whens.{not-both, fails-exactly, accepted-exactly as Whens·accepted-exactly, refused-by, one-or-two}
 use Rattle.labels.proofs.Calls.{Fitting, fitting, told-once}
 use Rattle.labels.proofs.Assigns.{labels-tab, distances-tab}
-use Rattle.labels.proofs.Firsts.{FirstOf, first-of, nearest-below, from-known}
+use Rattle.labels.proofs.Firsts.{FirstOf, first-of, search-below, from-known}
+use Rattle.labels.proofs.Places.{nearest-label, nearest-distance, infinitesIn, infinite-unplaced, unplaced-most}
 
--- ---- a row's label is the first cluster of smallest score below infinity, or 0 if there is none, with distance infinity
-pub label-first : (centroids : List Row) (row : Row) → FirstOf (map (score row) centroids) (nearest centroids row)
-unfolding nearest
+-- ---- a row's search ends at the first cluster of smallest score below infinity, or at 0 if there is none, with distance infinity
+pub label-first : (centroids : List Row) (row : Row) → FirstOf (map (score row) centroids) (search centroids row)
+unfolding search
 label-first centroids row = first-of (map (score row) centroids)
+
+-- ---- what is answered, by its cases: a cluster of smallest score and the first such, with that score, which is below infinity; or that no score is
+abbrev pub Answers : List Float → Placement → Type 0
+Answers scores (Placed label distance) =
+    (label < length scores) × ((getD scores label nan ≡ distance) × ((lt distance infinity ≡ true)
+    × (((j : ℕ) → j < length scores → lt (getD scores j nan) distance ≡ false) × ((j : ℕ) → j < label → le (getD scores j nan) distance ≡ false))))
+Answers scores Unplaced = (j : ℕ) → j < length scores → lt (getD scores j nan) infinity ≡ false
+
+answers : (scores : List Float) (r : Nearest) → FirstOf scores r → Answers scores (placement r)
+unfolding placement
+answers scores r f = go (lt (r .distance) infinity) refl (f .found)
+  where
+    go : (t : Bool) → lt (r .distance) infinity ≡ t → ((r .label < length scores) × ((getD scores (r .label) nan ≡ r .distance) × (lt (r .distance) infinity ≡ true))) ⊎ (r ≡ nothingYet)
+        → Answers scores (cond t (Placed (r .label) (r .distance)) Unplaced)
+    go true e (inl w) = (w .0, (w .1 .0, (e, (f .smallest, f .first))))
+    go true e (inr n) = let d : r .distance ≡ infinity = ap (λ (m : Nearest). m .distance) n in absurd (false≢true (sym (lt-irrefl infinity) ∙ rw d at e))
+    go false e (inl w) = absurd (false≢true (sym e ∙ w .1 .1))
+    go false e (inr n) = let d : r .distance ≡ infinity = ap (λ (m : Nearest). m .distance) n in λ j l. rw d at (f .smallest j l)
+
+pub answer-first : (centroids : List Row) (row : Row) → Answers (map (score row) centroids) (nearest centroids row)
+unfolding nearest
+answer-first centroids row = answers (map (score row) centroids) (search centroids row) (label-first centroids row)
+
+-- ---- a row is unplaced exactly when no score is below infinity
+pub unplaced-exactly : (centroids : List Row) (row : Row) → (nearest centroids row ≡ Unplaced)
+    ↔ ((j : ℕ) → j < length (map (score row) centroids) → lt (getD (map (score row) centroids) j nan) infinity ≡ false)
+unplaced-exactly centroids row = ((λ e. rw e at (answer-first centroids row)), (λ none. go (nearest centroids row) refl none (answer-first centroids row)))
+  where
+    go : (p : Placement) → nearest centroids row ≡ p → ((j : ℕ) → j < length (map (score row) centroids) → lt (getD (map (score row) centroids) j nan) infinity ≡ false)
+        → Answers (map (score row) centroids) p → nearest centroids row ≡ Unplaced
+    go (Placed label distance) e none a = absurd (false≢true (sym (none label (a .0)) ∙ rw (a .1 .0) (a .1 .1 .0)))
+    go Unplaced e none a = e
+
+-- ---- label and distance are those that the search alone gives, as before there was such an answer, for every row
+pub labels-before : (centroids rows : List Row) → labelsOf (nearests centroids rows) ≡ map (λ row. search centroids row .label) rows
+unfolding nearests
+labels-before centroids [] = refl
+labels-before centroids (row ∷ rows) = rw (nearest-label centroids row, labels-before centroids rows)
+
+pub distances-before : (centroids rows : List Row) → distancesOf (nearests centroids rows) ≡ map (λ row. search centroids row .distance) rows
+unfolding nearests
+distances-before centroids [] = refl
+distances-before centroids (row ∷ rows) = rw (nearest-distance centroids row, distances-before centroids rows)
+
+-- ---- the count is the number of rows whose distance is infinite, and at most that of the rows
+pub count-infinite : (centroids rows : List Row) → unplacedOf (nearests centroids rows) ≡ infinitesIn (distancesOf (nearests centroids rows))
+count-infinite centroids rows = sym (infinite-unplaced centroids rows)
+
+pub count-most : (centroids rows : List Row) → unplacedOf (nearests centroids rows) ≤ length rows
+unfolding nearests
+count-most centroids rows = rw (length-map rows (nearest centroids)) at (unplaced-most (nearests centroids rows))
 
 -- ---- with given centroids, two batches that agree at row i have the same label and the same distance there, whatever their other rows hold
 pub own-row : (centroids : List Row) (dim n n′ : ℕ) (values values′ : List Float) (i : ℕ) → i < n → i < n′ → rowAt values dim i ≡ rowAt values′ dim i
     → (getD (labelsOf (nearests centroids (rowsFrom dim n values))) i 0 ≡ getD (labelsOf (nearests centroids (rowsFrom dim n′ values′))) i 0)
     × (getD (distancesOf (nearests centroids (rowsFrom dim n values))) i nan ≡ getD (distancesOf (nearests centroids (rowsFrom dim n′ values′))) i nan)
 own-row centroids dim n n′ values values′ i h h′ e = (
-  label-at n values h ∙ (ap (λ (row : Row). nearest centroids row .label) e ∙ sym (label-at n′ values′ h′)),
-  distance-at n values h ∙ (ap (λ (row : Row). nearest centroids row .distance) e ∙ sym (distance-at n′ values′ h′)),
+  label-at n values h ∙ (ap (λ (row : Row). labelIn (nearest centroids row)) e ∙ sym (label-at n′ values′ h′)),
+  distance-at n values h ∙ (ap (λ (row : Row). distanceIn (nearest centroids row)) e ∙ sym (distance-at n′ values′ h′)),
 )
   where
-    label-at : (m : ℕ) (from : List Float) → i < m → getD (labelsOf (nearests centroids (rowsFrom dim m from))) i 0 ≡ nearest centroids (rowAt from dim i) .label
-    label-at m from l = rw (labels-tab centroids dim m from) (getD-tab (λ j. nearest centroids (rowAt from dim j) .label) m i 0 l)
+    label-at : (m : ℕ) (from : List Float) → i < m → getD (labelsOf (nearests centroids (rowsFrom dim m from))) i 0 ≡ labelIn (nearest centroids (rowAt from dim i))
+    label-at m from l = rw (labels-tab centroids dim m from) (getD-tab (λ j. labelIn (nearest centroids (rowAt from dim j))) m i 0 l)
 
-    distance-at : (m : ℕ) (from : List Float) → i < m → getD (distancesOf (nearests centroids (rowsFrom dim m from))) i nan ≡ nearest centroids (rowAt from dim i) .distance
-    distance-at m from l = rw (distances-tab centroids dim m from) (getD-tab (λ j. nearest centroids (rowAt from dim j) .distance) m i nan l)
+    distance-at : (m : ℕ) (from : List Float) → i < m → getD (distancesOf (nearests centroids (rowsFrom dim m from))) i nan ≡ distanceIn (nearest centroids (rowAt from dim i))
+    distance-at m from l = rw (distances-tab centroids dim m from) (getD-tab (λ j. distanceIn (nearest centroids (rowAt from dim j))) m i nan l)
 
 -- ---- there are as many labels as rows, and where there is a centroid every label is a cluster's number
 pub label-count : (centroids rows : List Row) → length (labelsOf (nearests centroids rows)) ≡ length rows
 unfolding nearests
-label-count centroids rows = length-map (map (nearest centroids) rows) (λ n. n .label) ∙ length-map rows (nearest centroids)
+label-count centroids rows = length-map (map (nearest centroids) rows) labelIn ∙ length-map rows (nearest centroids)
+
+pub nearest-below : (centroids : List Row) (row : Row) → 0 < length centroids → labelIn (nearest centroids row) < length centroids
+nearest-below centroids row h = rw (nearest-label centroids row) (search-below centroids row h)
 
 pub label-below : (centroids rows : List Row) → 0 < length centroids → Below (length centroids) (labelsOf (nearests centroids rows))
 unfolding nearests
 label-below centroids rows h =
-    rw (map-map (λ n. n .label) (nearest centroids) rows, map-index (λ r. nearest centroids r .label) rows []) (λ i l.
+    rw (map-map labelIn (nearest centroids) rows, map-index (λ r. labelIn (nearest centroids r)) rows []) (λ i l.
     let p : i < length rows = rw length-tab at l in
-    rw (getD-tab (λ j. nearest centroids (getD rows j []) .label) (length rows) i 0 p) (nearest-below centroids (getD rows i []) h))
+    rw (getD-tab (λ j. labelIn (nearest centroids (getD rows j []))) (length rows) i 0 p) (nearest-below centroids (getD rows i []) h))
 
 -- ---- no distance that labelling gives is a NaN, so that the pool's order is total on them
 pub distances-known : (centroids rows : List Row) (i : ℕ) → i < length (distancesOf (nearests centroids rows)) → isNan (getD (distancesOf (nearests centroids rows)) i nan) ≡ false
-unfolding nearests nearest isNan
+unfolding nearests search isNan
 distances-known centroids [] i l = absurd (not-suc-le-zero l)
-distances-known centroids (row ∷ rows) zero l = from-known 0 (map (score row) centroids) nothingYet refl
+distances-known centroids (row ∷ rows) zero l = rw (nearest-distance centroids row) (from-known 0 (map (score row) centroids) nothingYet refl)
 distances-known centroids (row ∷ rows) (suc i) l = distances-known centroids rows i (le-of-suc-le-suc l)
 
--- ---- what a caller reads in the cells of a call that is told `Labelled`
+-- ---- what a caller reads in the cells of a call that is told `Labelled`, with the count
+module _ (rows dim k : ℕ) (values centroids : List Float) (n m unplaced : ℕ) (cells : List ℕ)
+    (given : Gives (labelCall rows dim k values centroids n m) n (Labelled unplaced) cells) where
+  abbrev found : List Placement
+  found = nearests (rowsFrom dim k centroids) (rowsFrom dim rows values)
 
--- the first cluster of smallest score below infinity, or 0 where no score is below infinity
-abbrev pub FirstSmallest : List Float → ℕ → Type 0
-FirstSmallest scores label =
-    ((label < length scores) × ((lt (getD scores label nan) infinity ≡ true)
-    × (((j : ℕ) → j < length scores → lt (getD scores j nan) (getD scores label nan) ≡ false)
-    × ((j : ℕ) → j < label → le (getD scores j nan) (getD scores label nan) ≡ false))))
-    ⊎ ((label ≡ 0) × ((j : ℕ) → j < length scores → lt (getD scores j nan) infinity ≡ false))
+  abbrev scoresOf : ℕ → List Float
+  scoresOf i = map (score (rowAt values dim i)) (rowsFrom dim k centroids)
 
-first-smallest : (scores : List Float) (r : Nearest) → FirstOf scores r → FirstSmallest scores (r .label)
-first-smallest scores r f =
-    ⊎-elim
-    (λ w.
-    let d : getD scores (r .label) nan ≡ r .distance = w .1 .0 in
-    inl (w .0, (rw d (w .1 .1), ((λ j l. rw d (f .smallest j l)), (λ j l. rw d (f .first j l))))))
-    (λ e.
-    let d : r .distance ≡ infinity = ap (λ (n : Nearest). n .distance) e in
-    inr (ap (λ (n : Nearest). n .label) e, (λ j l. rw d at (f .smallest j l))))
-    (f .found)
-
-module _ (rows dim k : ℕ) (values centroids : List Float) (n : ℕ) (cells : List ℕ) (given : Gives (labelCall rows dim k values centroids n) n Labelled cells) where
-  abbrev labels : List ℕ
-  labels = labelsOf (nearests (rowsFrom dim k centroids) (rowsFrom dim rows values))
-
-  -- its numbers fit, and its cells are the labels
-  labelled : Fitting rows dim k (length values) (length centroids) n × (cells ≡ labels)
+  -- no number refuses it, its cells are the labels, and the count is theirs
+  labelled : (labelRefusal rows dim k (length values) (length centroids) n m ≡ 0) × ((cells ≡ labelsOf found) × (unplaced ≡ unplacedOf found))
   unfolding labelCall unless onAccepted cellsOf
-  labelled = go (labelRefusal rows dim k (length values) (length centroids) n) refl (given .result) (given .labels)
+  labelled = go (labelRefusal rows dim k (length values) (length centroids) n m) refl (given .result) (given .labels)
     where
-      go : (number : ℕ) → labelRefusal rows dim k (length values) (length centroids) n ≡ number
-          → told Labelled ≡ onAccepted {B = Unit {0}} (λ (l : List ℕ). tt {0}) (unless number (accepted labels))
-          → cells ≡ cellsOf blankCell n (λ (l : List ℕ). l) (unless number (accepted labels)) → Fitting rows dim k (length values) (length centroids) n × (cells ≡ labels)
+      go : (number : ℕ) → labelRefusal rows dim k (length values) (length centroids) n m ≡ number
+          → told (Labelled unplaced) ≡ onAccepted unplacedOf (unless number (accepted found))
+          → cells ≡ cellsOf blankCell n labelsOf (unless number (accepted found))
+          → (labelRefusal rows dim k (length values) (length centroids) n m ≡ 0) × ((cells ≡ labelsOf found) × (unplaced ≡ unplacedOf found))
       go zero e t c =
-          let f = fitting rows dim k (length values) (length centroids) n e in
-          let long : length labels ≡ rows = label-count (rowsFrom dim k centroids) (rowsFrom dim rows values) ∙ rows-length dim rows values in
-          (f, c ∙ padded-all blankCell n labels (long ∙ sym (f .cells-are)))
+          let f = fitting rows dim k (length values) (length centroids) n m e in
+          let long : length (labelsOf found) ≡ rows = label-count (rowsFrom dim k centroids) (rowsFrom dim rows values) ∙ rows-length dim rows values in
+          (e, (c ∙ padded-all blankCell n (labelsOf found) (long ∙ sym (f .cells-are)), cc))
       go (suc number) e t c = let z : _≡_ {A = ℕ} 0 1 = cc in absurd (omega arith)
+
+  fits : Fitting rows dim k (length values) (length centroids) n m
+  fits = fitting rows dim k (length values) (length centroids) n m (labelled .0)
 
   -- a label below k in each cell, one a row
   pub cells-below : (length cells ≡ rows) × Below k cells
   cells-below =
-      let is = labelled .1 in
-      let long : length labels ≡ rows = label-count (rowsFrom dim k centroids) (rowsFrom dim rows values) ∙ rows-length dim rows values in
+      let is = labelled .1 .0 in
+      let long : length (labelsOf found) ≡ rows = label-count (rowsFrom dim k centroids) (rowsFrom dim rows values) ∙ rows-length dim rows values in
       let few : length (rowsFrom dim k centroids) ≡ k = rows-length dim k centroids in
-      let below : Below k labels = rw few at (label-below (rowsFrom dim k centroids) (rowsFrom dim rows values) (rw few (labelled .0 .one))) in
+      let below : Below k (labelsOf found) = rw few at (label-below (rowsFrom dim k centroids) (rowsFrom dim rows values) (rw few (fits .one))) in
       (ap length is ∙ long, rw is below)
 
-  -- a cell's label is the nearest centroid of its row's readings, and of no other row's
-  cell-nearest : (i : ℕ) → i < rows → getD cells i 0 ≡ nearest (rowsFrom dim k centroids) (rowAt values dim i) .label
+  -- a cell's label is that of its row's readings, and of no other row's
+  cell-nearest : (i : ℕ) → i < rows → getD cells i 0 ≡ labelIn (nearest (rowsFrom dim k centroids) (rowAt values dim i))
   cell-nearest i l =
-      ap (λ (c : List ℕ). getD c i 0) (labelled .1 ∙ labels-tab (rowsFrom dim k centroids) dim rows values)
-      ∙ getD-tab (λ j. nearest (rowsFrom dim k centroids) (rowAt values dim j) .label) rows i 0 l
+      ap (λ (c : List ℕ). getD c i 0) (labelled .1 .0 ∙ labels-tab (rowsFrom dim k centroids) dim rows values)
+      ∙ getD-tab (λ j. labelIn (nearest (rowsFrom dim k centroids) (rowAt values dim j))) rows i 0 l
 
-  -- row i's cell holds the first cluster of smallest score below infinity, or 0
-  pub cell-first : (i : ℕ) → i < rows → FirstSmallest (map (score (rowAt values dim i)) (rowsFrom dim k centroids)) (getD cells i 0)
-  cell-first i l =
-      rw (cell-nearest i l)
-      (first-smallest (map (score (rowAt values dim i)) (rowsFrom dim k centroids)) (nearest (rowsFrom dim k centroids) (rowAt values dim i)) (label-first (rowsFrom dim k centroids) (rowAt values dim i)))
+  -- row i's cell holds the label of one answer to its scores
+  pub cell-first : (i : ℕ) → i < rows → (p : Placement) × (Answers (scoresOf i) p × (getD cells i 0 ≡ labelIn p))
+  cell-first i l = (nearest (rowsFrom dim k centroids) (rowAt values dim i), (answer-first (rowsFrom dim k centroids) (rowAt values dim i), cell-nearest i l))
 
--- Between any two calls that are told `Labelled`, with the same centroids: rows of the same readings have the same label, whatever the other rows are,
--- however many, and wherever the rows stand.
-pub cells-alike : (rows rows′ dim k : ℕ) (values values′ centroids : List Float) (n n′ : ℕ) (cells cells′ : List ℕ)
-    → Gives (labelCall rows dim k values centroids n) n Labelled cells → Gives (labelCall rows′ dim k values′ centroids n′) n′ Labelled cells′
+  -- the count is at most that of the rows
+  pub cells-count : unplaced ≤ rows
+  cells-count = omega (arith, labelled .1 .1, rows-length dim rows values, count-most (rowsFrom dim k centroids) (rowsFrom dim rows values))
+
+  -- the distances of the call, where they were asked for
+  module _ (distances : List Float) (measured : distances ≡ cellsOf zero32 m distancesOf (labelCall rows dim k values centroids n m)) where
+    distances-are : distances ≡ distancesOf found
+    unfolding labelCall unless cellsOf
+    distances-are =
+        let long : length (distancesOf found) ≡ m = length-map found distanceIn ∙ sym (length-map found labelIn)
+        ∙ (label-count (rowsFrom dim k centroids) (rowsFrom dim rows values) ∙ rows-length dim rows values ∙ sym (fits .distances-are)) in
+        measured ∙ rw (labelled .0) (padded-all zero32 m (distancesOf found) long)
+
+    cell-distance : (i : ℕ) → i < rows → getD distances i nan ≡ distanceIn (nearest (rowsFrom dim k centroids) (rowAt values dim i))
+    cell-distance i l =
+        ap (λ (c : List Float). getD c i nan) (distances-are ∙ distances-tab (rowsFrom dim k centroids) dim rows values)
+        ∙ getD-tab (λ j. distanceIn (nearest (rowsFrom dim k centroids) (rowAt values dim j))) rows i nan l
+
+    -- and its other cell holds the distance of the same answer
+    pub cell-answer : (i : ℕ) → i < rows → (p : Placement) × (Answers (scoresOf i) p × ((getD cells i 0 ≡ labelIn p) × (getD distances i nan ≡ distanceIn p)))
+    cell-answer i l =
+        (nearest (rowsFrom dim k centroids) (rowAt values dim i), (answer-first (rowsFrom dim k centroids) (rowAt values dim i), (cell-nearest i l, cell-distance i l)))
+
+    -- its distance is infinite exactly when no score is below infinity
+    pub cell-unplaced : (i : ℕ) → i < rows → (getD distances i nan ≡ infinity) ↔ ((j : ℕ) → j < length (scoresOf i) → lt (getD (scoresOf i) j nan) infinity ≡ false)
+    cell-unplaced i l = let a = cell-answer i l in go (a .0) (a .1 .0) (a .1 .1 .1)
+      where
+        go : (p : Placement) → Answers (scoresOf i) p → getD distances i nan ≡ distanceIn p
+            → (getD distances i nan ≡ infinity) ↔ ((j : ℕ) → j < length (scoresOf i) → lt (getD (scoresOf i) j nan) infinity ≡ false)
+        go (Placed label distance) a e = (
+          (λ d. let z : distance ≡ infinity = sym e ∙ d in absurd (false≢true (sym (lt-irrefl infinity) ∙ rw z at (a .1 .1 .0)))),
+          (λ none. absurd (false≢true (sym (none label (a .0)) ∙ rw (a .1 .0) (a .1 .1 .0)))),
+        )
+        go Unplaced a e = ((λ d. a), (λ none. e))
+
+    -- the count is the number of infinite distances
+    pub cells-infinite : unplaced ≡ infinitesIn distances
+    cells-infinite = labelled .1 .1 ∙ (count-infinite (rowsFrom dim k centroids) (rowsFrom dim rows values) ∙ ap infinitesIn (sym distances-are))
+
+-- ---- in any two calls that are told `Labelled`, two rows of the same readings have the same label, whatever stands around them
+pub cells-alike : (rows rows′ dim k : ℕ) (values values′ centroids : List Float) (n n′ m m′ unplaced unplaced′ : ℕ) (cells cells′ : List ℕ)
+    → Gives (labelCall rows dim k values centroids n m) n (Labelled unplaced) cells → Gives (labelCall rows′ dim k values′ centroids n′ m′) n′ (Labelled unplaced′) cells′
     → (i i′ : ℕ) → i < rows → i′ < rows′ → rowAt values dim i ≡ rowAt values′ dim i′ → getD cells i 0 ≡ getD cells′ i′ 0
-cells-alike rows rows′ dim k values values′ centroids n n′ cells cells′ g g′ i i′ l l′ e =
-    cell-nearest rows dim k values centroids n cells g i l
-    ∙ (ap (λ (row : Row). nearest (rowsFrom dim k centroids) row .label) e ∙ sym (cell-nearest rows′ dim k values′ centroids n′ cells′ g′ i′ l′))
+cells-alike rows rows′ dim k values values′ centroids n n′ m m′ unplaced unplaced′ cells cells′ g g′ i i′ l l′ e =
+    cell-nearest rows dim k values centroids n m unplaced cells g i l
+    ∙ (ap (λ (row : Row). labelIn (nearest (rowsFrom dim k centroids) row)) e ∙ sym (cell-nearest rows′ dim k values′ centroids n′ m′ unplaced′ cells′ g′ i′ l′))
 
 -- ---- which number refuses a call, and exactly when
-module _ (rows dim k : ℕ) (values centroids : List Float) (n : ℕ) where
-  abbrev pub call : Answer (List ℕ)
-  call = labelCall rows dim k values centroids n
+module _ (rows dim k : ℕ) (values centroids : List Float) (n m : ℕ) where
+  abbrev pub call : Answer (List Placement)
+  call = labelCall rows dim k values centroids n m
 
   -- every number is in range
   abbrev pub ranges : Bool
@@ -145,10 +227,10 @@ module _ (rows dim k : ℕ) (values centroids : List Float) (n : ℕ) where
 
   -- every lent slice is as long as the numbers say
   abbrev pub slices : Bool
-  slices = eqb (length values) (rows * dim) && eqb (length centroids) (k * dim) && eqb n rows
+  slices = eqb (length values) (rows * dim) && eqb (length centroids) (k * dim) && eqb n rows && eqb m rows
 
-  abbrev pub answer : List ℕ
-  answer = labelsOf (nearests (rowsFrom dim k centroids) (rowsFrom dim rows values))
+  abbrev pub answer : List Placement
+  answer = nearests (rowsFrom dim k centroids) (rowsFrom dim rows values)
 
   -- Refused by 1 exactly when a number is out of range.
   pub refused-one : (call ≡ refused 1) ↔ (ranges ≡ false)
@@ -160,7 +242,7 @@ module _ (rows dim k : ℕ) (values centroids : List Float) (n : ℕ) where
   unfolding labelCall labelRefusal
   refused-two = fails-exactly (ranges ∷ slices ∷ []) (accepted answer) 1 (λ _. not-both answer 2)
 
-  -- Accepted, with the labels, exactly when both tests pass.
+  -- Accepted, with an answer a row, exactly when both tests pass.
   pub accepted-exactly : (call ≡ accepted answer) ↔ ((ranges ≡ true) × (slices ≡ true))
   unfolding labelCall labelRefusal
   accepted-exactly =
@@ -173,5 +255,5 @@ module _ (rows dim k : ℕ) (values centroids : List Float) (n : ℕ) where
   refused-otherwise number c = ⊎-elim (λ h. one-or-two number (h .0) (h .1)) (λ e. absurd (not-both answer number e)) (refused-by (ranges ∷ slices ∷ []) (accepted answer) number c)
 
 -- ---- the answer and every cell follow from the call alone: any two results that a call may give are the same
-pub one-answer : {answer : Answer (List ℕ)} {n : ℕ} {r r′ : LabelAnswer} {cells cells′ : List ℕ} → Gives answer n r cells → Gives answer n r′ cells′ → (r ≡ r′) × (cells ≡ cells′)
+pub one-answer : {answer : Answer (List Placement)} {n : ℕ} {r r′ : LabelAnswer} {cells cells′ : List ℕ} → Gives answer n r cells → Gives answer n r′ cells′ → (r ≡ r′) × (cells ≡ cells′)
 one-answer {answer} {n} {r} {r′} g g′ = (told-once r r′ (g .result ∙ sym (g′ .result)), g .labels ∙ sym (g′ .labels))

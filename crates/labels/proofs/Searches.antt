@@ -13,7 +13,7 @@ use Rattle.sums.specs.Tables.{tabulate}
 use Rattle.sums.proofs.Tables.{tab-add, tab-same, length-tab, getD-tab}
 use Rattle.sums.proofs.Rows.{room, map-rows}
 use Rattle.labels.specs.declared.nearest.Nearest.{Nearest}
-use Rattle.labels.specs.Label.{scoreFrom, score, better, nearestFrom, nothingYet, nearest}
+use Rattle.labels.specs.Label.{scoreFrom, score, better, nearestFrom, nothingYet, search}
 use Rattle.labels.specs.Panels.{columnOf, panelsOf, dotsOf}
 use Rattle.labels.specs.Inside.{normsOf, byPanels}
 use Rattle.labels.proofs.Columns.{column-centroid, dots-at}
@@ -82,8 +82,8 @@ module _ (row : Row) (centroids : List Float) (dim k n : ℕ) (size : length cen
         getD-tab (λ i. normOf (rowAt centroids dim i)) k c nan h,
       )
 
-  pub by-panels : byPanels row (normOf row) (panelsOf centroids dim k n) (normsOf (rowsFrom dim k centroids)) ≡ nearest (rowsFrom dim k centroids) row
-  unfolding nearest
+  pub by-panels : byPanels row (normOf row) (panelsOf centroids dim k n) (normsOf (rowsFrom dim k centroids)) ≡ search (rowsFrom dim k centroids) row
+  unfolding search
   by-panels =
       panel-scores row (normOf row) (panelsOf centroids dim k n) (normsOf (rowsFrom dim k centroids))
       ∙ ap (λ (scores : List Float). nearestFrom 0 scores nothingYet)

@@ -1,4 +1,4 @@
--- Labelling on what a caller lends (01, 'Ranges and refusal numbers'). Lengths stand for the lent slices.
+-- Labelling on what a caller lends (01, 'Ranges and refusal numbers'). Lengths stand for the lent slices; who asks for no distances lends as many as cells.
 use mathlib.Core.Path.{_≡_}
 use mathlib.Core.Bool.{_&&_}
 use mathlib.Core.List.{List, [], _∷_}
@@ -8,26 +8,29 @@ use lib.ListN.{length}
 use lib.Ieee.{Float}
 use Rattle.sums.specs.Rows.{rowsFrom}
 use Rattle.sums.specs.Refusals.{Answer, accepted, refused, within, lowest, unless, onAccepted, cellsOf, blankCell}
-use Rattle.labels.specs.Label.{nearests, labelsOf}
+use Rattle.labels.specs.declared.nearest.Placement.{Placement}
+use Rattle.labels.specs.Label.{nearests, labelsOf, unplacedOf}
 use Rattle.labels.specs.declared.call.LabelAnswer.{LabelAnswer}
 use Rattle.labels.specs.declared.call.LabelAnswer.the-variants.{Labelled, Refused}
 
 -- 1: rows, dim or k out of range; 2: a slice is not as long as they say
-unfoldable pub labelRefusal : ℕ → ℕ → ℕ → ℕ → ℕ → ℕ → ℕ
-labelRefusal rows dim k values centroids cells =
-    lowest ((within 0 4096 rows && within 1 64 dim && within 1 64 k) ∷ (eqb values (rows * dim) && eqb centroids (k * dim) && eqb cells rows) ∷ [])
+unfoldable pub labelRefusal : ℕ → ℕ → ℕ → ℕ → ℕ → ℕ → ℕ → ℕ
+labelRefusal rows dim k values centroids cells distances =
+    lowest ((within 0 4096 rows && within 1 64 dim && within 1 64 k)
+    ∷ (eqb values (rows * dim) && eqb centroids (k * dim) && eqb cells rows && eqb distances rows) ∷ [])
 
--- the labels, one a row
-unfoldable pub labelCall : ℕ → ℕ → ℕ → List Float → List Float → ℕ → Answer (List ℕ)
-labelCall rows dim k values centroids cells = unless (labelRefusal rows dim k (length values) (length centroids) cells)
-    (accepted (labelsOf (nearests (rowsFrom dim k centroids) (rowsFrom dim rows values))))
+-- one answer a row
+unfoldable pub labelCall : ℕ → ℕ → ℕ → List Float → List Float → ℕ → ℕ → Answer (List Placement)
+labelCall rows dim k values centroids cells distances =
+    unless (labelRefusal rows dim k (length values) (length centroids) cells distances)
+    (accepted (nearests (rowsFrom dim k centroids) (rowsFrom dim rows values)))
 
--- each case of the code's enum in 01's terms; an acceptance carries no number
-abbrev pub told : LabelAnswer → Answer (Unit {0})
-told Labelled = accepted tt
+-- each case of the code's enum in 01's terms: the number of unplaced rows (02 (ii)), or the refusal's number
+abbrev pub told : LabelAnswer → Answer ℕ
+told (Labelled unplaced) = accepted unplaced
 told (Refused number) = refused number
 
--- a call's whole result: the answer, and the n cells lent
-pub record Gives (answer : Answer (List ℕ)) (n : ℕ) (r : LabelAnswer) (cells : List ℕ) : Type 0 where
-  pub result : told r ≡ onAccepted (λ (labels : List ℕ). tt) answer
-  pub labels : cells ≡ cellsOf blankCell n (λ (labels : List ℕ). labels) answer
+-- a call's result: the answer, and the n label cells lent
+pub record Gives (answer : Answer (List Placement)) (n : ℕ) (r : LabelAnswer) (cells : List ℕ) : Type 0 where
+  pub result : told r ≡ onAccepted unplacedOf answer
+  pub labels : cells ≡ cellsOf blankCell n labelsOf answer

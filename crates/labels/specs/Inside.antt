@@ -8,8 +8,11 @@ use Rattle.sums.specs.Rows.{Row, rowsFrom, rowAt}
 use Rattle.sums.specs.Sums.{normOf, dotOf}
 use Rattle.sums.specs.Tables.{tabulate}
 use Rattle.sums.specs.Cells.{Below}
-use Rattle.labels.specs.Label.{scoreFrom, nearestFrom, nothingYet}
+use Rattle.sums.specs.Refusals.{sameAll}
+use Rattle.labels.specs.Label.{scoreFrom, nearestFrom, nothingYet, placement, labelsOf, distancesOf, unplacedOf}
 use Rattle.labels.specs.declared.nearest.Nearest.{Nearest}
+use Rattle.labels.specs.declared.nearest.Placement.{Placement}
+use Rattle.labels.specs.declared.nearest.Tally.{Tally}
 use Rattle.labels.specs.Panels.{columnOf}
 
 -- the norms of n rows
@@ -24,6 +27,17 @@ scanned rownorm norms dots from count best = nearestFrom from (tabulate (λ j. s
 unfoldable pub byPanels : Row → Float → List Float → List Float → Nearest
 byPanels row rownorm panels norms = let column : ℕ → Row = λ c. columnOf (rowAt panels (16 * length row) (c / 16)) (length row) (c % 16) in
     nearestFrom 0 (tabulate (λ c. scoreFrom rownorm (getD norms c nan) (dotOf row (column c))) (length norms)) nothingYet
+
+-- what the panels answer for row i
+abbrev pub placedBy : List Float → List Float → ℕ → List Float → List Float → ℕ → Placement
+placedBy values rownorms dim panels norms i = placement (byPanels (rowAt values dim i) (getD rownorms i nan) panels norms)
+
+-- all rows have their answers in the cells; whether every label is the one that stood there, and how many rows are unplaced
+pub record Assigned (found : List Placement) (labels₀ labels : List ℕ) (distances : List Float) (r : Tally) : Type 0 where
+  pub labelled : labels ≡ labelsOf found
+  pub measured : distances ≡ distancesOf found
+  pub same : r .same ≡ sameAll labels₀ labels
+  pub counted : r .unplaced ≡ unplacedOf found
 
 -- how long the slices of `assign_rows` are, with the rows' norms worked out
 abbrev pub Assignable : ℕ → ℕ → List Float → List Float → List Float → ℕ → ℕ → Type 0

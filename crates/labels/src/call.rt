@@ -4,15 +4,18 @@ ghost use mathlib.Core.Bool.{_&&_};
 ghost use Prim.Native.Nat.{_*_, _≤_};
 ghost use lib.Dec.{eqb};
 ghost use lib.ListN.{length};
-ghost use Rattle.sums.specs.Refusals.{within};
+ghost use Rattle.sums.specs.Sums.{zero32};
+ghost use Rattle.sums.specs.Refusals.{within, cellsOf};
+ghost use Rattle.labels.specs.Label.{distancesOf};
 ghost use Rattle.labels.specs.Call.{labelRefusal, labelCall, Gives};
 use crate::nearest;
 use sums::cells;
 use sums::checks;
+use sums::numbers;
 
-// Labelled, or refused by number.
+// Labelled, with the number of unplaced rows; or refused by number.
 pub enum LabelAnswer {
-    Labelled,
+    Labelled(u32),
     // the refusal's number
     Refused(u32),
 }
@@ -33,19 +36,29 @@ fn lengths_fit(
     values: usize,
     centroids: usize,
     labels: usize,
+    distances: usize,
 ) -> bool
     requires { ⌜ (rows ≤ 4096) × ((dim ≤ 64) × (k ≤ 64)) ⌝ }
-    ensures { λ r. ⌜ r ≡ (eqb values (rows * dim) && eqb centroids (k * dim) && eqb labels rows) ⌝ }
+    ensures { λ r. ⌜ r ≡ (eqb values (rows * dim) && eqb centroids (k * dim) && eqb labels rows && eqb distances rows) ⌝ }
 {
     let a = checks::both(
         checks::same(values, rows * dim),
         checks::same(centroids, k * dim),
     );
-    checks::both(a, checks::same(labels, rows))
+    let b = checks::both(a, checks::same(labels, rows));
+    checks::both(b, checks::same(distances, rows))
 }
 
-fn refusal(rows: u32, dim: u32, k: u32, values: usize, centroids: usize, labels: usize) -> u32
-    ensures { λ r. ⌜ r ≡ labelRefusal rows dim k values centroids labels ⌝ }
+fn refusal(
+    rows: u32,
+    dim: u32,
+    k: u32,
+    values: usize,
+    centroids: usize,
+    labels: usize,
+    distances: usize,
+) -> u32
+    ensures { λ r. ⌜ r ≡ labelRefusal rows dim k values centroids labels distances ⌝ }
 {
     if !ranges_fit(rows, dim, k) {
         return 1;
@@ -57,13 +70,61 @@ fn refusal(rows: u32, dim: u32, k: u32, values: usize, centroids: usize, labels:
         values,
         centroids,
         labels,
+        distances,
     ) {
         return 2;
     }
     0
 }
 
-// The labels of rows against given centroids (01, 'Sums in stated order'), or the refusal's number and blank cells.
+// The labels of rows against given centroids, and how far each row is from its own (01, 'Sums in stated order'; 02 (ii)); or the refusal's
+// number and blank cells.
+pub fn place_rows(
+    rows: u32,
+    dim: u32,
+    k: u32,
+    values: &[f32],
+    centroids: &[f32],
+    labels: &mut [u16],
+    distances: &mut [f32],
+) -> LabelAnswer
+    ensures { λ r. ⌜ (let n = length (now (labels .entry)) in let m = length (now (distances .entry)) in
+        Gives (labelCall rows dim k (now (values .entry)) (now (centroids .entry)) n m) n r (now (labels .exit))) ⌝ }
+    ensures { λ r. ⌜ (let n = length (now (labels .entry)) in let m = length (now (distances .entry)) in
+        now (distances .exit) ≡ cellsOf zero32 m distancesOf (labelCall rows dim k (now (values .entry)) (now (centroids .entry)) n m)) ⌝ }
+{
+    let wide = dim as usize;
+    let clusters = k as usize;
+    cells::fill(labels, 65535);
+    cells::clear(distances);
+    let number = refusal(
+        rows,
+        dim,
+        k,
+        values.len(),
+        centroids.len(),
+        labels.len(),
+        distances.len(),
+    );
+    if number != 0 {
+        return LabelAnswer::Refused(number);
+    }
+    let n = labels.len();
+    let mut norms = [0.0f32; 4096];
+    nearest::compute_norms(values, wide, &mut norms[..n]);
+    let tally = nearest::assign_rows(
+        values,
+        &norms[..n],
+        wide,
+        centroids,
+        clusters,
+        labels,
+        distances,
+    );
+    LabelAnswer::Labelled(tally.unplaced as u32)
+}
+
+// The labels alone.
 pub fn label_rows(
     rows: u32,
     dim: u32,
@@ -73,27 +134,9 @@ pub fn label_rows(
     labels: &mut [u16],
 ) -> LabelAnswer
     ensures { λ r. ⌜ (let n = length (now (labels .entry)) in
-        Gives (labelCall rows dim k (now (values .entry)) (now (centroids .entry)) n) n r (now (labels .exit))) ⌝ }
+        Gives (labelCall rows dim k (now (values .entry)) (now (centroids .entry)) n n) n r (now (labels .exit))) ⌝ }
 {
-    let wide = dim as usize;
-    let clusters = k as usize;
-    cells::fill(labels, 65535);
-    let number = refusal(rows, dim, k, values.len(), centroids.len(), labels.len());
-    if number != 0 {
-        return LabelAnswer::Refused(number);
-    }
-    let n = labels.len();
-    let mut norms = [0.0f32; 4096];
+    let n = numbers::least(labels.len(), 4096);
     let mut distances = [0.0f32; 4096];
-    nearest::compute_norms(values, wide, &mut norms[..n]);
-    nearest::assign_rows(
-        values,
-        &norms[..n],
-        wide,
-        centroids,
-        clusters,
-        labels,
-        &mut distances[..n],
-    );
-    LabelAnswer::Labelled
+    place_rows(rows, dim, k, values, centroids, labels, &mut distances[..n])
 }

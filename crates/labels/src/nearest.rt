@@ -1,16 +1,15 @@
 // The nearest centroid of a row, and of many rows (the source's assign_points_for_update and compute_chunk_assignments_only).
 ghost use mathlib.Core.Path.{_≡_};
 ghost use mathlib.Core.Bool.{_&&_};
+ghost use mathlib.Core.List.{[], _∷_};
 ghost use Prim.Native.Nat.{_+_, _-_, _*_, _/_, _≤_, _<_};
 ghost use lib.Dec.{eqb};
 ghost use lib.ListN.{length, getD, set};
-ghost use lib.Ieee.{nan};
-ghost use Rattle.sums.specs.Rows.{rowsFrom, rowAt};
+ghost use Rattle.sums.specs.Rows.{rowsFrom};
 ghost use Rattle.sums.specs.Tables.{tabulate};
-ghost use Rattle.sums.specs.Refusals.{sameAll};
 ghost use Rattle.sums.specs.Sums.{infinity as Sums·infinity};
-ghost use Rattle.labels.specs.Label.{scoreFrom, better as Label·better, nearests, labelsOf, distancesOf};
-ghost use Rattle.labels.specs.Inside.{normsOf, scanned, byPanels, Assignable};
+ghost use Rattle.labels.specs.Label.{scoreFrom, better as Label·better, placement, nearests, labelIn, distanceIn, unplacedOf};
+ghost use Rattle.labels.specs.Inside.{normsOf, scanned, byPanels, placedBy, Assigned, Assignable};
 use crate::lanes;
 use sums::numbers;
 use sums::rooms;
@@ -19,6 +18,18 @@ use sums::rooms;
 pub struct Nearest {
     pub label: u16,
     pub distance: f32,
+}
+
+// What a row's search answers: its nearest cluster, and the score against it; or that no score is below infinity.
+pub enum Placement {
+    Placed { label: u16, distance: f32 },
+    Unplaced,
+}
+
+// Of the rows so far: whether every label is the one that stood there before, and how many rows are unplaced.
+pub struct Tally {
+    pub same: bool,
+    pub unplaced: usize,
 }
 
 // What is found for two rows.
@@ -138,6 +149,47 @@ pub fn compute_norms(values: &[f32], dim: usize, norms: &mut [f32])
     }
 }
 
+// The answer of a search that has ended.
+fn placement_of(best: Nearest) -> Placement
+    ensures { λ r. ⌜ r ≡ placement best ⌝ }
+{
+    if best.distance < infinity() {
+        return Placement::Placed {
+            label: best.label,
+            distance: best.distance,
+        };
+    }
+    Placement::Unplaced
+}
+
+fn label_in(found: Placement) -> u16
+    ensures { λ r. ⌜ r ≡ labelIn found ⌝ }
+{
+    match found {
+        Placement::Placed { label, distance } => label,
+        Placement::Unplaced => 0,
+    }
+}
+
+fn distance_in(found: Placement) -> f32
+    ensures { λ r. ⌜ r ≡ distanceIn found ⌝ }
+{
+    match found {
+        Placement::Placed { label, distance } => distance,
+        Placement::Unplaced => infinity(),
+    }
+}
+
+// 1 for an unplaced row, and 0 for any other.
+fn unplaced_in(found: Placement) -> usize
+    ensures { λ r. ⌜ (r ≡ unplacedOf (found ∷ [])) × (r ≤ 1) ⌝ }
+{
+    match found {
+        Placement::Placed { label, distance } => 0,
+        Placement::Unplaced => 1,
+    }
+}
+
 fn still(same: bool, old: u16, new: u16) -> bool
     ensures { λ r. ⌜ r ≡ (same && eqb old new) ⌝ }
 {
@@ -147,17 +199,22 @@ fn still(same: bool, old: u16, new: u16) -> bool
     false
 }
 
-// What is found for row i, put to its cells; true exactly where `same` is and the label is the one that stood there.
-fn put(labels: &mut [u16], distances: &mut [f32], i: usize, found: Nearest, same: bool) -> bool
-    requires { ⌜ (i < length (now labels)) × (i < length (now distances)) ⌝ }
-    ensures { λ _. ⌜ (now (labels .exit) ≡ set (now (labels .entry)) i (found .label))
-        × (now (distances .exit) ≡ set (now (distances .entry)) i (found .distance)) ⌝ }
-    ensures { λ r. ⌜ r ≡ (same && eqb (getD (now (labels .entry)) i 0) (found .label)) ⌝ }
+// Row i's answer put to its cells, and to the tally of the rows before it.
+fn put(labels: &mut [u16], distances: &mut [f32], i: usize, found: Placement, tally: Tally) -> Tally
+    requires { ⌜ (i < length (now labels)) × ((i < length (now distances)) × (tally .unplaced ≤ i)) ⌝ }
+    ensures { λ _. ⌜ (now (labels .exit) ≡ set (now (labels .entry)) i (labelIn found))
+        × (now (distances .exit) ≡ set (now (distances .entry)) i (distanceIn found)) ⌝ }
+    ensures { λ r. ⌜ (r .same ≡ (tally .same && eqb (getD (now (labels .entry)) i 0) (labelIn found)))
+        × ((r .unplaced ≡ tally .unplaced + unplacedOf (found ∷ [])) × (r .unplaced ≤ i + 1)) ⌝ }
 {
-    let stands = still(same, labels[i], found.label);
-    labels[i] = found.label;
-    distances[i] = found.distance;
-    stands
+    let label = label_in(found);
+    let same = still(tally.same, labels[i], label);
+    labels[i] = label;
+    distances[i] = distance_in(found);
+    Tally {
+        same,
+        unplaced: tally.unplaced + unplaced_in(found),
+    }
 }
 
 // Labels and distances of the rows, the centroids being laid out in panels. Two rows go at a time, and an odd last one with itself.
@@ -169,17 +226,17 @@ fn assign_by_panels(
     norms: &[f32],
     labels: &mut [u16],
     distances: &mut [f32],
-) -> bool
+) -> Tally
     requires { ⌜ (length (now values) ≡ length (now labels) * dim)
         × ((length (now distances) ≡ length (now labels)) × (length (now rownorms) ≡ length (now labels))) ⌝ }
     requires { ⌜ (dim ≤ 64) × ((length (now norms) ≤ 64) × ((length (now norms) + 15) / 16 * (16 * dim) ≤ length (now panels))) ⌝ }
-    ensures { λ _. ⌜ now (labels .exit) ≡ tabulate (λ i. byPanels (rowAt (now (values .entry)) dim i) (getD (now (rownorms .entry)) i nan)
-        (now (panels .entry)) (now (norms .entry)) .label) (length (now (labels .entry))) ⌝ }
-    ensures { λ _. ⌜ now (distances .exit) ≡ tabulate (λ i. byPanels (rowAt (now (values .entry)) dim i) (getD (now (rownorms .entry)) i nan)
-        (now (panels .entry)) (now (norms .entry)) .distance) (length (now (labels .entry))) ⌝ }
-    ensures { λ r. ⌜ r ≡ sameAll (now (labels .entry)) (now (labels .exit)) ⌝ }
+    ensures { λ r. ⌜ (let found = placedBy (now (values .entry)) (now (rownorms .entry)) dim (now (panels .entry)) (now (norms .entry)) in
+        Assigned (tabulate found (length (now (labels .entry)))) (now (labels .entry)) (now (labels .exit)) (now (distances .exit)) r) ⌝ }
 {
-    let mut same = true;
+    let mut tally = Tally {
+        same: true,
+        unplaced: 0,
+    };
     let mut i = 0usize;
     while i + 1 < labels.len() {
         let at = i * dim;
@@ -189,8 +246,8 @@ fn assign_by_panels(
         let row = &values[at..mid];
         let second = &values[mid..end];
         let found = find_nearest_pair(row, second, rownorms[i], rownorms[j], panels, norms);
-        same = put(labels, distances, i, found.first, same);
-        same = put(labels, distances, j, found.second, same);
+        tally = put(labels, distances, i, placement_of(found.first), tally);
+        tally = put(labels, distances, j, placement_of(found.second), tally);
         i = j + 1;
     }
     if i < labels.len() {
@@ -198,9 +255,9 @@ fn assign_by_panels(
         let end = at + dim;
         let row = &values[at..end];
         let found = find_nearest_pair(row, row, rownorms[i], rownorms[i], panels, norms);
-        return put(labels, distances, i, found.first, same);
+        return put(labels, distances, i, placement_of(found.first), tally);
     }
-    same
+    tally
 }
 
 // Labels and distances of the rows; `panels` is room for the centroids' panels.
@@ -213,14 +270,11 @@ fn assign_in(
     panels: &mut [f32],
     labels: &mut [u16],
     distances: &mut [f32],
-) -> bool
+) -> Tally
     requires { ⌜ Assignable dim k (now values) (now rownorms) (now centroids) (length (now labels)) (length (now distances)) ⌝ }
     requires { ⌜ length (now panels) ≡ (k + 15) / 16 * (16 * dim) ⌝ }
-    ensures { λ _. ⌜ (let rows = rowsFrom dim (length (now (labels .entry))) (now (values .entry)) in
-        now (labels .exit) ≡ labelsOf (nearests (rowsFrom dim k (now (centroids .entry))) rows)) ⌝ }
-    ensures { λ _. ⌜ (let rows = rowsFrom dim (length (now (labels .entry))) (now (values .entry)) in
-        now (distances .exit) ≡ distancesOf (nearests (rowsFrom dim k (now (centroids .entry))) rows)) ⌝ }
-    ensures { λ r. ⌜ r ≡ sameAll (now (labels .entry)) (now (labels .exit)) ⌝ }
+    ensures { λ r. ⌜ (let rows = rowsFrom dim (length (now (labels .entry))) (now (values .entry)) in
+        Assigned (nearests (rowsFrom dim k (now (centroids .entry))) rows) (now (labels .entry)) (now (labels .exit)) (now (distances .exit)) r) ⌝ }
 {
     let mut lengths = [0.0f32; 64];
     let count = (k + 15) / 16;
@@ -237,8 +291,7 @@ fn assign_in(
     )
 }
 
-// Labels and distances of the rows; true exactly where every label is the one that stood there. Few and short centroids get little room,
-// since the room is cleared in every call.
+// Labels and distances of the rows, and their tally. Few and short centroids get little room, since the room is cleared in every call.
 pub fn assign_rows(
     values: &[f32],
     rownorms: &[f32],
@@ -247,13 +300,10 @@ pub fn assign_rows(
     k: usize,
     labels: &mut [u16],
     distances: &mut [f32],
-) -> bool
+) -> Tally
     requires { ⌜ Assignable dim k (now values) (now rownorms) (now centroids) (length (now labels)) (length (now distances)) ⌝ }
-    ensures { λ _. ⌜ (let rows = rowsFrom dim (length (now (labels .entry))) (now (values .entry)) in
-        now (labels .exit) ≡ labelsOf (nearests (rowsFrom dim k (now (centroids .entry))) rows)) ⌝ }
-    ensures { λ _. ⌜ (let rows = rowsFrom dim (length (now (labels .entry))) (now (values .entry)) in
-        now (distances .exit) ≡ distancesOf (nearests (rowsFrom dim k (now (centroids .entry))) rows)) ⌝ }
-    ensures { λ r. ⌜ r ≡ sameAll (now (labels .entry)) (now (labels .exit)) ⌝ }
+    ensures { λ r. ⌜ (let rows = rowsFrom dim (length (now (labels .entry))) (now (values .entry)) in
+        Assigned (nearests (rowsFrom dim k (now (centroids .entry))) rows) (now (labels .entry)) (now (labels .exit)) (now (distances .exit)) r) ⌝ }
 {
     let cells = (k + 15) / 16 * (16 * dim);
     if cells <= 512 {

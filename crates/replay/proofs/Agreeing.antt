@@ -38,12 +38,12 @@ kmeansTold head n m labels centroids answer =
     kmeansSame head labels centroids n m (codeOf answer) (figureOf 0 (λ (a : Result). a .restart) answer) (figureOf zero32 (λ (a : Result). a .objective) answer)
     (cellsOf blankCell n (λ (a : Result). a .labels) answer) (cellsOf zero32 m (λ (a : Result). flatten (a .centroids)) answer)
 
-pub kmeans-agreed : (answer : Answer Result) (head labels centroids : List ℕ) (n m number restart : ℕ) (objective : Float) (l : List ℕ) (c : List Float) (r : Bool)
+pub kmeans-agreed : (answer : Answer Result) (head labels centroids : List ℕ) (n m number restart unplaced : ℕ) (objective : Float) (l : List ℕ) (c : List Float) (r : Bool)
     → r ≡ kmeansSame head labels centroids (length l) (length c) number restart objective l c → length l ≡ n → length c ≡ m
-    → KMeansGave answer n m number l c objective restart
+    → KMeansGave answer n m number l c objective restart unplaced
     → r ≡ kmeansTold head n m labels centroids answer
-kmeans-agreed answer head labels centroids n m number restart objective l c r e p q g =
-    rw (g .0, g .1 .1 .1 .1, g .1 .1 .1 .0, g .1 .0, g .1 .1 .0) at (rw (p, q) at e)
+kmeans-agreed answer head labels centroids n m number restart unplaced objective l c r e p q g =
+    rw (g .0, g .1 .1 .1 .1 .0, g .1 .1 .1 .0, g .1 .0, g .1 .1 .0) at (rw (p, q) at e)
 
 -- ---- whole words
 abbrev pub wholeWords : ℕ → Bool
@@ -80,12 +80,12 @@ pub room : {A : Type 0} (v : A) (n : ℕ) → n ≤ 320 → length (take (n / 4)
 room v n h = length-take-le (n / 4) (replicate 80 v) (omega arith)
 
 -- ---- the call of k-means, of what the record says
-pub kmeans-read : (head drawBytes valueBytes : List ℕ) (d v n m : ℕ) (rows dim k iterations restarts points block training : ℕ) (draws : List ℕ) (values : List Float) (number restart : ℕ) (objective : Float) (l : List ℕ) (c : List Float)
+pub kmeans-read : (head drawBytes valueBytes : List ℕ) (d v n m : ℕ) (rows dim k iterations restarts points block training : ℕ) (draws : List ℕ) (values : List Float) (number restart unplaced : ℕ) (objective : Float) (l : List ℕ) (c : List Float)
     → rows ≡ u32At head 24 → dim ≡ u32At head 28 → k ≡ u32At head 32 → iterations ≡ u32At head 36 → restarts ≡ u32At head 40 → points ≡ u32At head 44 → block ≡ u32At head 48
     → draws ≡ wordsFrom d drawBytes → values ≡ floatsFrom v valueBytes → training ≡ v
-    → KMeansGave (kmeansCall rows dim k (configOf iterations restarts points block) draws values (n ∷ m ∷ training ∷ [])) n m number l c objective restart
-    → KMeansGave (kmeansCall (u32At head 24) (u32At head 28) (u32At head 32) (configOf (u32At head 36) (u32At head 40) (u32At head 44) (u32At head 48)) (wordsFrom d drawBytes) (floatsFrom v valueBytes) (n ∷ m ∷ v ∷ [])) n m number l c objective restart
-kmeans-read head drawBytes valueBytes d v n m rows dim k iterations restarts points block training draws values number restart objective l c e1 e2 e3 e4 e5 e6 e7 e8 e9 f g =
+    → KMeansGave (kmeansCall rows dim k (configOf iterations restarts points block) draws values (n ∷ m ∷ training ∷ [])) n m number l c objective restart unplaced
+    → KMeansGave (kmeansCall (u32At head 24) (u32At head 28) (u32At head 32) (configOf (u32At head 36) (u32At head 40) (u32At head 44) (u32At head 48)) (wordsFrom d drawBytes) (floatsFrom v valueBytes) (n ∷ m ∷ v ∷ [])) n m number l c objective restart unplaced
+kmeans-read head drawBytes valueBytes d v n m rows dim k iterations restarts points block training draws values number restart unplaced objective l c e1 e2 e3 e4 e5 e6 e7 e8 e9 f g =
     rw (e1, e2, e3, e4, e5, e6, e7, e8, e9, f) at g
 
 -- ---- a text over a buffer of its length

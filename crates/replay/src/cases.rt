@@ -125,6 +125,7 @@ fn kmeans_inside(
     words::floats_of(values, v);
     let mut objective = 0.0f64;
     let mut restart = 0u32;
+    let mut unplaced = 0u32;
     let number = exports::slices::families_kmeans(
         words::u32_at(head, 24),
         words::u32_at(head, 28),
@@ -139,6 +140,7 @@ fn kmeans_inside(
         c,
         &mut objective,
         &mut restart,
+        &mut unplaced,
         training,
     );
     kmeans_told(number, restart, objective, l, c, head, labels, centroids)

@@ -8,16 +8,16 @@ use Rattle.batch.specs.Listing.{placesFrom, decimal, rowNumbers, groupLine, lis
 use Rattle.batch.specs.Batch.{answerBy}
 use Rattle.worked.specs.Table.{Table}
 use Rattle.worked.proofs.Opened.{opened}
-use Rattle.worked.proofs.Settled.{P1-parts, P2-parts, P2-refused, P10-settles}
+use Rattle.worked.proofs.Settled.{P1-parts, P1-lost, P2-parts, P2-lost, P2-refused, P10-settles}
 
 pub table-holds : Table
 unfolding opened splitFrom ofBits numberOf trailerAt fitsFile shapeOf placesFrom decimal rowNumbers groupLine listing answerBy
 table-holds = record {
-  P1 = rw P1-parts;
+  P1 = rw (P1-parts, P1-lost);
   P1-listing = rw P1-parts;
   no-bytes = refl;
   P2 = rw (P2-refused 3 0);
-  P2-balanced = rw P2-parts;
+  P2-balanced = rw (P2-parts, P2-lost);
   P3-share = refl;
   P3-allowance = refl;
   P3-sizes = refl;
@@ -26,6 +26,7 @@ table-holds = record {
   P5 = refl;
   P6 = refl;
   P7 = refl;
+  P7-unplaced = refl;
   P8 = refl;
   P8-wide = refl;
   P9 = refl;

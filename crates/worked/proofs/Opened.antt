@@ -7,7 +7,7 @@ use Rattle.sums.specs.Sums.{sumFrom, normOf, dotOf, apartOf, spreadOf, addRow}
 use Rattle.sums.specs.Ordering.{place, orderFrom, keep}
 use Rattle.sums.specs.Draws.{drawn, exchange, exchangesFrom, pick}
 use Rattle.sums.specs.Refusals.{sameAll, lowestFrom, unless, onAccepted}
-use Rattle.labels.specs.Label.{scoreFrom, score, better, nearestFrom, nearest, nearests}
+use Rattle.labels.specs.Label.{scoreFrom, score, better, nearestFrom, search, placement, nearest, nearests, unplacedOf}
 use Rattle.labels.specs.Pool.{farther, blockPool, blockPools, pool}
 use Rattle.labels.specs.Call.{labelRefusal, labelCall}
 use Rattle.kmeans.specs.Steps.{target, trainingIf, countsFrom, sumsFrom, timesInverse, updateFrom, drawsAfter, update, objectiveFrom}
@@ -22,7 +22,7 @@ use Rattle.grouping.specs.Call as call
 
 -- all of them but picking
 unfoldable pub unpicked : Unit {0}
-unfolding add sub mul div lt le isNan ofInt toUnsigned flatMap flatten rowsFrom sumFrom normOf dotOf apartOf spreadOf addRow place orderFrom keep sameAll lowestFrom unless onAccepted scoreFrom score better nearestFrom nearest nearests farther blockPool blockPools pool labelRefusal labelCall target trainingIf countsFrom sumsFrom timesInverse updateFrom drawsAfter update objectiveFrom firstFit resultOf keepBetter fitOf restartsFrom restartsOf kmeans rangesFit lengthsFit kmeansRefusal kmeansCall nearer reachOf listed closure anyNan unordered closureRefusal answered closureCall having flat allowed seek closestFrom closestOf balanced moves waits pushed after front back groupFrom meanOf call.rangesFit call.lengthsFit call.groupingRefusal call.groupingCall
+unfolding add sub mul div lt le isNan ofInt toUnsigned flatMap flatten rowsFrom sumFrom normOf dotOf apartOf spreadOf addRow place orderFrom keep sameAll lowestFrom unless onAccepted scoreFrom score better nearestFrom search placement nearest nearests unplacedOf farther blockPool blockPools pool labelRefusal labelCall target trainingIf countsFrom sumsFrom timesInverse updateFrom drawsAfter update objectiveFrom firstFit resultOf keepBetter fitOf restartsFrom restartsOf kmeans rangesFit lengthsFit kmeansRefusal kmeansCall nearer reachOf listed closure anyNan unordered closureRefusal answered closureCall having flat allowed seek closestFrom closestOf balanced moves waits pushed after front back groupFrom meanOf call.rangesFit call.lengthsFit call.groupingRefusal call.groupingCall
 unpicked = tt
 
 unfoldable pub opened : Unit {0}

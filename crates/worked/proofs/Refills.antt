@@ -9,7 +9,7 @@ use Rattle.sums.specs.Rows.{Row}
 use Rattle.sums.specs.Sums.{one32}
 use Rattle.sums.specs.Draws.{drawn}
 use Rattle.sums.specs.Tables.{upTo}
-use Rattle.labels.specs.declared.nearest.Nearest.{Nearest}
+use Rattle.labels.specs.declared.nearest.Placement.{Placement}
 use Rattle.labels.specs.Label.{nearests, labelsOf, distancesOf}
 use Rattle.labels.specs.Pool.{pool}
 use Rattle.kmeans.specs.Steps.{Fit, countsFrom, update, iterate}
@@ -19,7 +19,7 @@ use Rattle.worked.proofs.Opened.{opened}
 use Rattle.worked.proofs.Settled.{at}
 
 -- each row against its cluster
-abbrev found : List Nearest
+abbrev found : List Placement
 found = nearests (alike 10) (alike 10)
 
 -- a run, from the first ten picked on: ten draws pick the centroids

@@ -19,7 +19,7 @@ use Rattle.labels.specs.Label.{nearests}
 use Rattle.kmeans.specs.Steps.{Fit, update, iterate}
 use Rattle.kmeans.proofs.Turns.{fixed}
 use Rattle.grouping.specs.Balance.{share}
-use Rattle.grouping.specs.Groups.{Rule, balanceIf, partsOf, madeBy, splitFrom}
+use Rattle.grouping.specs.Groups.{Rule, balanceIf, partsOf, madeBy, lostBy, splitFrom}
 use Rattle.worked.specs.Table.{half}
 use Rattle.worked.proofs.Opened.{unpicked, opened}
 
@@ -60,6 +60,10 @@ pub P1-parts : partsOf (ruled four zero32) 0 (upTo 4) ≡ (0 ∷ 1 ∷ []) ∷ (
 unfolding opened partsOf balanceIf
 P1-parts = rw P1-settles
 
+pub P1-lost : lostBy (ruled four zero32) 0 (upTo 4) ≡ 0
+unfolding opened lostBy
+P1-lost = rw P1-settles
+
 -- ---- P2
 
 abbrev five : List Row
@@ -98,8 +102,12 @@ pub P2-parts : partsOf (ruled five half) 0 (upTo 5) ≡ (2 ∷ 3 ∷ 4 ∷ []) �
 unfolding opened balanceIf
 P2-parts = P2-together half 0
 
+pub P2-lost : lostBy (ruled five half) 0 (upTo 5) ≡ 0
+unfolding unpicked lostBy
+P2-lost = rw (P2-fit (0 + 0))
+
 -- with no weight so does every split, until the budget is spent
-pub P2-refused : (left n : ℕ) → splitFrom (partsOf (ruled five zero32)) (madeBy (ruled five zero32)) 4 2 left n (upTo 5 ∷ []) ≡ refused 7
+pub P2-refused : (left n : ℕ) → splitFrom (partsOf (ruled five zero32)) (madeBy (ruled five zero32)) (lostBy (ruled five zero32)) 4 2 left n (upTo 5 ∷ []) ≡ refused 7
 unfolding opened splitFrom balanceIf
 P2-refused zero n = refl
 P2-refused (suc left) n = rw (P2-together zero32 n, P2-refused left (madeBy (ruled five zero32) n (upTo 5)))

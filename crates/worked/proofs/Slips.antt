@@ -13,15 +13,15 @@ use Rattle.sums.specs.Rows.{Row, rowsAt}
 use Rattle.sums.specs.Sums.{zero32, one32, count32, sumFrom, apartOf, addRow, zeroRow}
 use Rattle.sums.specs.Ordering.{place}
 use Rattle.sums.specs.Refusals.{Answer, accepted, refused}
-use Rattle.labels.specs.Label.{nearestFrom, nothingYet, nearest}
+use Rattle.labels.specs.Label.{nearestFrom, nothingYet, nearest, labelIn}
 use Rattle.labels.specs.Pool.{farther, pool}
 use Rattle.kmeans.specs.Steps.{timesInverse, iterate}
 use Rattle.kmeans.specs.KMeans.{Result, kmeans}
 use Rattle.grouping.specs.Balance.{share, allowed, closestOf, moved, giver, taker, balance}
-use Rattle.grouping.specs.Groups.{Groups, partsOf, madeBy, waits, after, front, back, splitFrom, grouping, meanOf}
+use Rattle.grouping.specs.Groups.{Groups, partsOf, madeBy, lostBy, waits, after, front, back, splitFrom, grouping, meanOf}
 use Rattle.worked.specs.Table.{half, grouped}
 use Rattle.worked.proofs.Opened.{opened}
-use Rattle.worked.proofs.Settled.{ruled, four, P1-parts}
+use Rattle.worked.proofs.Settled.{ruled, four, P1-parts, P1-lost}
 
 -- scoring by squared differences instead of the norm formula
 abbrev bySquares : List Row → Row → ℕ
@@ -52,15 +52,15 @@ meanBalanced dim rows share most (suc left) centroids parts =
     cond (ltb g (length parts)) (cond (ltb r (length parts)) later parts) parts
 
 -- finishing waiting groups in first-come order: parts wait behind the others
-module _ (parts : ℕ → List ℕ → List (List ℕ)) (made : ℕ → List ℕ → ℕ) (limit branching : ℕ) where
+module _ (parts : ℕ → List ℕ → List (List ℕ)) (made lost : ℕ → List ℕ → ℕ) (limit branching : ℕ) where
   unfoldable pub queuedFrom : ℕ → ℕ → List (List ℕ) → Answer Groups
-  queuedFrom zero n [] = accepted (record { groups = []; splits = 0 })
+  queuedFrom zero n [] = accepted (record { groups = []; splits = 0; unplaced = 0 })
   queuedFrom zero n (g ∷ waiting) = cond (ltb (length g) branching) (refused 6) (refused 7)
-  queuedFrom (suc left) n [] = accepted (record { groups = []; splits = 0 })
+  queuedFrom (suc left) n [] = accepted (record { groups = []; splits = 0; unplaced = 0 })
   queuedFrom (suc left) n (g ∷ waiting) =
       let then = waiting ++ flatMap (λ (p : List ℕ). waits p []) (parts n g) in
       let rest = queuedFrom left (made n g) (back limit then) in
-      cond (ltb (length g) branching) (refused 6) (after (front limit then) 1 rest)
+      cond (ltb (length g) branching) (refused 6) (after (front limit then) 1 (lost n g) rest)
 
 -- letting an equal later row into a full pool of eight
 abbrev entered : List Float → ℕ → List ℕ → List ℕ
@@ -94,7 +94,7 @@ six = singles (0 ∷ 9 ∷ 14 ∷ 5 ∷ 0 ∷ 0 ∷ [])
 
 pub record Slips : Type 0 where
   -- the squared differences are 1 and 0, and both scores are 0
-  pub squares : Told (nearest (singles (4096 ∷ 4097 ∷ [])) (count32 4097 ∷ []) .label) (bySquares (singles (4096 ∷ 4097 ∷ [])) (count32 4097 ∷ [])) 0 1
+  pub squares : Told (labelIn (nearest (singles (4096 ∷ 4097 ∷ [])) (count32 4097 ∷ []))) (bySquares (singles (4096 ∷ 4097 ∷ [])) (count32 4097 ∷ [])) 0 1
   -- 1 - 2^25 is -2^25 in 32 bits
   pub widening : Told (fit .objective) (widenedFrom zero32 (fit .centroids) (fit .labels) far) (fin false 1 (pos 51)) (fin false 2251799746576385 (pos 0))
   -- 5 divided by 3, and 5 times a third
@@ -103,7 +103,7 @@ pub record Slips : Type 0 where
   pub balancing : Told (balance six (singles (0 ∷ 10 ∷ [])) (share 6 2) half (upTo 6 ∷ [] ∷ [])) (meanBalanced 1 six (share 6 2) (allowed (share 6 2) half) 10 (singles (0 ∷ 10 ∷ [])) (upTo 6 ∷ [] ∷ []))
       ((0 ∷ 3 ∷ 4 ∷ 5 ∷ []) ∷ (1 ∷ 2 ∷ []) ∷ []) ((0 ∷ 2 ∷ 4 ∷ 5 ∷ []) ∷ (1 ∷ 3 ∷ []) ∷ [])
   -- P1: the part put to wait last is finished first
-  pub finishing : Told (grouping (ruled four zero32) 2 4) (queuedFrom (partsOf (ruled four zero32)) (madeBy (ruled four zero32)) 2 2 4 0 (upTo 4 ∷ []))
+  pub finishing : Told (grouping (ruled four zero32) 2 4) (queuedFrom (partsOf (ruled four zero32)) (madeBy (ruled four zero32)) (lostBy (ruled four zero32)) 2 2 4 0 (upTo 4 ∷ []))
       (grouped ((2 ∷ 3 ∷ []) ∷ (0 ∷ 1 ∷ []) ∷ []) 1) (grouped ((0 ∷ 1 ∷ []) ∷ (2 ∷ 3 ∷ []) ∷ []) 1)
   -- nine rows equally far: the ninth stays out
   pub pooling : Told (pool 32768 (replicate 9 one32)) (enteredFrom (replicate 9 one32) [] (upTo 9)) (upTo 8) (upTo 7 ++ (8 ∷ []))
@@ -120,6 +120,6 @@ slips-told = record {
   widening = record { gives = refl; slips = refl; apart = λ e. let z : _≡_ {A = ℕ} 0 1 = cc in omega arith };
   inverse = record { gives = refl; slips = refl; apart = λ e. let z : _≡_ {A = ℕ} 13981013 6990507 = cc in omega arith };
   balancing = record { gives = refl; slips = refl; apart = λ e. let z : _≡_ {A = ℕ} 0 1 = cc in omega arith };
-  finishing = record { gives = rw P1-parts; slips = rw P1-parts; apart = λ e. let z : _≡_ {A = ℕ} 2 0 = ap first e in omega arith };
+  finishing = record { gives = rw (P1-parts, P1-lost); slips = rw (P1-parts, P1-lost); apart = λ e. let z : _≡_ {A = ℕ} 2 0 = ap first e in omega arith };
   pooling = record { gives = refl; slips = refl; apart = λ e. let z : _≡_ {A = ℕ} 0 1 = cc in omega arith };
 }

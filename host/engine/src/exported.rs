@@ -1,8 +1,13 @@
 //! The exported functions, each behind a safe wrapper. A slice goes as its pointer and its length, and a call that its thread has too
 //! little stack for is made on another, so nothing is asked of the caller.
 
+use crate::placement;
+pub use crate::placement::Placement;
 use crate::stack;
 pub use crate::work::{GroupWork, KMeansWork};
+
+/// The most rows that a call takes.
+const MOST_ROWS: u32 = 4_096;
 
 extern "C" {
     fn families_label(
@@ -39,6 +44,22 @@ extern "C" {
         centroid_cells: usize,
         labels: *mut u16,
         label_cells: usize,
+        unplaced: *mut u32,
+    ) -> u32;
+
+    fn families_place_rows(
+        rows: u32,
+        dim: u32,
+        k: u32,
+        values: *const f32,
+        value_cells: usize,
+        centroids: *const f32,
+        centroid_cells: usize,
+        labels: *mut u16,
+        label_cells: usize,
+        distances: *mut f32,
+        distance_cells: usize,
+        unplaced: *mut u32,
     ) -> u32;
 
     fn families_kmeans(
@@ -59,6 +80,7 @@ extern "C" {
         centroid_cells: usize,
         objective: *mut f64,
         restart: *mut u32,
+        unplaced: *mut u32,
         training: *mut f32,
         training_cells: usize,
     ) -> u32;
@@ -82,6 +104,7 @@ extern "C" {
         mean_cells: usize,
         groups: *mut u32,
         splits: *mut u32,
+        unplaced: *mut u32,
         gathered: *mut f32,
         gathered_cells: usize,
         training: *mut f32,
@@ -133,6 +156,13 @@ pub fn closure(
     })
 }
 
+/// What labelling tells beside its result slices: 0 or the refusal's number, and how many rows are unplaced.
+#[derive(Clone, Copy, Debug, PartialEq, Eq)]
+pub struct LabelTold {
+    pub number: u32,
+    pub unplaced: u32,
+}
+
 /// The labels of many rows, over typed slices.
 pub fn label_rows(
     rows: u32,
@@ -141,8 +171,10 @@ pub fn label_rows(
     values: &[f32],
     centroids: &[f32],
     labels: &mut [u16],
-) -> u32 {
-    stack::with(stack::LABEL_ROWS, || unsafe {
+) -> LabelTold {
+    // A figure that no call gives, so that one which the callee leaves alone shows; below likewise.
+    let mut unplaced = u32::MAX;
+    let number = stack::with(stack::LABEL_ROWS, || unsafe {
         families_label_rows(
             rows,
             dim,
@@ -153,8 +185,59 @@ pub fn label_rows(
             centroids.len(),
             labels.as_mut_ptr(),
             labels.len(),
+            &mut unplaced,
         )
-    })
+    });
+    LabelTold { number, unplaced }
+}
+
+/// As `label_rows`, with each row's distance in a cell beside its label.
+pub fn place_cells(
+    rows: u32,
+    dim: u32,
+    k: u32,
+    values: &[f32],
+    centroids: &[f32],
+    labels: &mut [u16],
+    distances: &mut [f32],
+) -> LabelTold {
+    let mut unplaced = u32::MAX;
+    let number = stack::with(stack::PLACE_ROWS, || unsafe {
+        families_place_rows(
+            rows,
+            dim,
+            k,
+            values.as_ptr(),
+            values.len(),
+            centroids.as_ptr(),
+            centroids.len(),
+            labels.as_mut_ptr(),
+            labels.len(),
+            distances.as_mut_ptr(),
+            distances.len(),
+            &mut unplaced,
+        )
+    });
+    LabelTold { number, unplaced }
+}
+
+/// Where each of the rows is placed, or the refusal's number.
+pub fn place_rows(
+    rows: u32,
+    dim: u32,
+    k: u32,
+    values: &[f32],
+    centroids: &[f32],
+) -> Result<Vec<Placement>, u32> {
+    // More rows than are allowed are refused whatever is lent, and may be too many to lend for.
+    let cells = rows.min(MOST_ROWS) as usize;
+    let mut labels = vec![0; cells];
+    let mut distances = vec![0.0; cells];
+    let told = place_cells(rows, dim, k, values, centroids, &mut labels, &mut distances);
+    match told.number {
+        0 => Ok(placement::of_cells(&labels, &distances)),
+        number => Err(number),
+    }
 }
 
 /// The numbers of a k-means call.
@@ -169,12 +252,14 @@ pub struct KMeansNumbers {
     pub block: u32,
 }
 
-/// What k-means tells beside its result slices: 0 or the refusal's number, the objective, and the restart kept.
+/// What k-means tells beside its result slices: 0 or the refusal's number, the objective, the restart kept, and how many rows are
+/// unplaced in that restart's labelling of all rows.
 #[derive(Clone, Copy, Debug)]
 pub struct KMeansTold {
     pub number: u32,
     pub objective: f64,
     pub restart: u32,
+    pub unplaced: u32,
 }
 
 /// K-means over typed slices.
@@ -186,9 +271,9 @@ pub fn kmeans(
     centroids: &mut [f32],
     work: &mut KMeansWork,
 ) -> KMeansTold {
-    // Figures that no refusal gives, so that one which the callee leaves alone shows.
     let mut objective = f64::NAN;
     let mut restart = u32::MAX;
+    let mut unplaced = u32::MAX;
     let number = stack::with(stack::KMEANS, || unsafe {
         families_kmeans(
             numbers.rows,
@@ -208,6 +293,7 @@ pub fn kmeans(
             centroids.len(),
             &mut objective,
             &mut restart,
+            &mut unplaced,
             work.training.as_mut_ptr(),
             work.training.len(),
         )
@@ -216,6 +302,7 @@ pub fn kmeans(
         number,
         objective,
         restart,
+        unplaced,
     }
 }
 
@@ -230,12 +317,14 @@ pub struct GroupNumbers {
     pub budget: u32,
 }
 
-/// What grouping tells beside its result slices: 0 or the refusal's number, and how many groups and splits there are.
+/// What grouping tells beside its result slices: 0 or the refusal's number, how many groups and splits there are, and how many rows
+/// were unplaced, summed over the splits: a row counts once for each split that does not place it.
 #[derive(Clone, Copy, Debug, PartialEq, Eq)]
 pub struct GroupTold {
     pub number: u32,
     pub groups: u32,
     pub splits: u32,
+    pub unplaced: u32,
 }
 
 /// Grouping over typed slices.
@@ -248,9 +337,9 @@ pub fn group(
     means: &mut [f32],
     work: &mut GroupWork,
 ) -> GroupTold {
-    // Figures that no call gives, so that one which the callee leaves alone shows.
     let mut groups = u32::MAX;
     let mut splits = u32::MAX;
+    let mut unplaced = u32::MAX;
     let number = stack::with(stack::GROUP, || unsafe {
         families_group(
             numbers.rows,
@@ -271,6 +360,7 @@ pub fn group(
             means.len(),
             &mut groups,
             &mut splits,
+            &mut unplaced,
             work.gathered.as_mut_ptr(),
             work.gathered.len(),
             work.training.as_mut_ptr(),
@@ -281,6 +371,7 @@ pub fn group(
         number,
         groups,
         splits,
+        unplaced,
     }
 }
 

@@ -2,6 +2,7 @@
 //! more than its thread has left is made on another.
 
 pub mod exported;
+mod placement;
 pub mod stack;
 mod work;
 

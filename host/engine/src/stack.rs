@@ -11,15 +11,17 @@ use std::thread;
 pub const LABEL: usize = 128 << 10;
 pub const CLOSURE: usize = 128 << 10;
 pub const LABEL_ROWS: usize = 128 << 10;
+pub const PLACE_ROWS: usize = 128 << 10;
 pub const KMEANS: usize = 192 << 10;
 pub const GROUP: usize = 256 << 10;
 pub const LIST: usize = 640 << 10;
 
 /// All of them by the names of the functions.
-pub const STATED: [(&str, usize); 6] = [
+pub const STATED: [(&str, usize); 7] = [
     ("families_label", LABEL),
     ("families_closure", CLOSURE),
     ("families_label_rows", LABEL_ROWS),
+    ("families_place_rows", PLACE_ROWS),
     ("families_kmeans", KMEANS),
     ("families_group", GROUP),
     ("families_list", LIST),

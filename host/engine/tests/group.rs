@@ -53,20 +53,23 @@ fn fitting(values: &[f32], limit: u32, branching: u32, weight: f32, budget: u32)
     call(values, numbers, &mut work)
 }
 
+/// Of a call that places all rows.
 fn told(groups: u32, splits: u32) -> GroupTold {
     GroupTold {
         number: 0,
         groups,
         splits,
+        unplaced: 0,
     }
 }
 
-/// This number, both figures zero and all results blank.
+/// This number, all figures zero and all results blank.
 fn assert_refused(call: &Call, number: u32) {
     let refused = GroupTold {
         number,
         groups: 0,
         splits: 0,
+        unplaced: 0,
     };
     assert_eq!(call.told, refused);
     assert!(call.order.iter().all(|&cell| cell == BLANK));
@@ -98,6 +101,19 @@ fn p11_and_p12_and_no_split_at_all() {
     assert_refused(&fitting(&[0.0, 1.0, 2.0], 2, 2, 0.0, 0), 7);
     assert_eq!(fitting(&[0.0, 1.0], 2, 2, 0.0, 0).told, told(1, 0));
     assert_eq!(fitting(&[], 2, 2, 0.0, 0).told, told(0, 0));
+}
+
+/// Rows that nothing places, parted by balancing alone: four rows, then three of them, then two.
+#[test]
+fn unplaced_rows_count_in_every_split() {
+    let call = fitting(&[f32::NAN; 4], 1, 2, 0.5, 9);
+    let counted = GroupTold {
+        unplaced: 4 + 3 + 2,
+        ..told(4, 3)
+    };
+    assert_eq!(call.told, counted);
+    assert_eq!(fitting(&[f32::NAN; 4], 4, 2, 0.5, 9).told, told(1, 0));
+    assert_refused(&fitting(&[f32::NAN; 4], 1, 2, 0.5, 2), 7);
 }
 
 #[test]

@@ -3,6 +3,7 @@
 use std::thread;
 
 use engine::exported::{self, GroupNumbers, GroupTold, GroupWork, KMeansNumbers, KMeansWork};
+use engine::exported::{LabelTold, Placement};
 use engine::stack;
 
 /// Less than any call takes. The system may hand a new thread the stack of one that ended, of up to four times the size: those of the
@@ -47,10 +48,27 @@ fn closure() {
 fn label_rows() {
     let told = on_small_thread(|| {
         let mut labels = [9; 4];
-        let number = exported::label_rows(4, 1, 2, &VALUES, &[9.0, 2.0], &mut labels);
-        (number, labels)
+        let told = exported::label_rows(4, 1, 2, &VALUES, &[9.0, 2.0], &mut labels);
+        (told, labels)
     });
-    assert_eq!(told, (0, [1, 1, 0, 0]));
+    let expected = LabelTold {
+        number: 0,
+        unplaced: 0,
+    };
+    assert_eq!(told, (expected, [1, 1, 0, 0]));
+}
+
+#[test]
+fn place_rows() {
+    let told = on_small_thread(|| exported::place_rows(4, 1, 2, &VALUES, &[9.0, 2.0]));
+    let placed = |label, distance| Placement::Placed { label, distance };
+    let expected = [
+        placed(1, 4.0),
+        placed(1, 1.0),
+        placed(0, 1.0),
+        placed(0, 4.0),
+    ];
+    assert_eq!(told.as_deref(), Ok(&expected[..]));
 }
 
 #[test]
@@ -69,6 +87,7 @@ fn kmeans() {
         let work = &mut KMeansWork::new(4, 1, 9.0);
         let told = exported::kmeans(numbers, &[0], &VALUES, &mut labels, &mut centroids, work);
         assert!(work.is_zero(), "the work slice ends all zero");
+        assert_eq!(told.unplaced, 0);
         (told.number, told.objective, told.restart, labels, centroids)
     });
     assert_eq!(told, (0, 1.0, 0, [0, 0, 1, 1], [0.5, 10.5]));
@@ -96,6 +115,7 @@ fn group() {
         number: 0,
         groups: 2,
         splits: 1,
+        unplaced: 0,
     };
     assert_eq!(told, expected);
     assert_eq!((order, ends), ([2, 3, 0, 1], [2, 4, 65_535, 65_535]));

@@ -37,6 +37,7 @@ pub fn families(table: &Table, settings: Settings, draws: Draws) -> Result<Group
     Ok(Grouping {
         families: taken_apart(&order, &ends[..groups], &means, dim),
         splits: told.splits,
+        unplaced: told.unplaced,
     })
 }
 
@@ -77,7 +78,7 @@ mod tests {
     #[test]
     fn families_have_their_rows_and_means() {
         let grouping = p1(2, 4).unwrap();
-        assert_eq!(grouping.splits, 1);
+        assert_eq!((grouping.splits, grouping.unplaced), (1, 0));
         let mut families = grouping.families;
         families.sort_by_key(|family| family.rows[0]);
         let family = |rows: [usize; 2], mean: f32| Family {
@@ -85,6 +86,20 @@ mod tests {
             mean: vec![mean],
         };
         assert_eq!(families, [family([0, 1], 0.5), family([2, 3], 10.5)]);
+    }
+
+    #[test]
+    fn rows_whose_squares_overflow_are_counted_in_every_split() {
+        let settings = Settings {
+            limit: 1,
+            branching: 2,
+            weight: 0.5,
+            budget: 9,
+        };
+        let draws = Draws { seed: 1, count: 3 };
+        let grouping = families(&table(1, &[2e19; 4]), settings, draws).unwrap();
+        // Balancing alone parts them: four rows, then three of them, then two.
+        assert_eq!((grouping.splits, grouping.unplaced), (3, 4 + 3 + 2));
     }
 
     #[test]

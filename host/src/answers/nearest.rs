@@ -1,6 +1,6 @@
-//! One row against given centroids: bytes for the exported functions are made and read here, and a refusal is an error.
+//! Rows against given centroids: what the exported functions take is made here, and a refusal is an error.
 
-use engine::exported;
+use engine::exported::{self, Placement};
 
 fn bytes(values: &[f32]) -> Vec<u8> {
     let each = values.iter();
@@ -19,6 +19,7 @@ fn cells(bytes: &[u8]) -> Vec<u16> {
 #[derive(Clone, Debug)]
 pub struct Centroids {
     count: u32,
+    values: Vec<f32>,
     bytes: Vec<u8>,
 }
 
@@ -26,16 +27,14 @@ impl Centroids {
     pub fn new(count: u32, values: &[f32]) -> Self {
         Self {
             count,
+            values: values.to_vec(),
             bytes: bytes(values),
         }
     }
 
-    /// The nearest centroid of one row, or the refusal's number.
-    pub fn label(&self, dim: u32, row: &[f32]) -> Result<u16, u32> {
-        let mut result = [0; 2];
-        let number = exported::label(dim, self.count, &bytes(row), &self.bytes, &mut result);
-        accepted(number)?;
-        Ok(u16::from_le_bytes(result))
+    /// Where each of the rows is placed, or the refusal's number.
+    pub fn place(&self, dim: u32, rows: u32, values: &[f32]) -> Result<Vec<Placement>, u32> {
+        exported::place_rows(rows, dim, self.count, values, &self.values)
     }
 
     /// The centroids that one row is offered, closest first, or the refusal's number.
@@ -57,18 +56,13 @@ impl Centroids {
             &self.bytes,
             &mut result,
         );
-        accepted(number)?;
+        if number != 0 {
+            return Err(number);
+        }
         let mut listed = cells(&result);
         let how_many = listed[count] as usize;
         listed.truncate(how_many);
         Ok(listed)
-    }
-}
-
-fn accepted(number: u32) -> Result<(), u32> {
-    match number {
-        0 => Ok(()),
-        number => Err(number),
     }
 }
 
@@ -81,10 +75,12 @@ mod tests {
     }
 
     #[test]
-    fn labels_of_p5_to_p7() {
-        assert_eq!(of_one_reading(&[1.0, 1.0]).label(1, &[1.0]), Ok(0));
-        assert_eq!(of_one_reading(&[f32::NAN, 2.0]).label(1, &[2.0]), Ok(1));
-        assert_eq!(of_one_reading(&[1.0, 2.0]).label(1, &[f32::NAN]), Ok(0));
+    fn placements_of_p5_to_p7() {
+        let place = |row: f32, centroids: &[f32]| of_one_reading(centroids).place(1, 1, &[row]);
+        let placed = |label, distance| Ok(vec![Placement::Placed { label, distance }]);
+        assert_eq!(place(1.0, &[1.0, 1.0]), placed(0, 0.0));
+        assert_eq!(place(2.5, &[f32::NAN, 2.0]), placed(1, 0.25));
+        assert_eq!(place(f32::NAN, &[1.0, 2.0]), Ok(vec![Placement::Unplaced]));
     }
 
     #[test]
@@ -98,9 +94,9 @@ mod tests {
     #[test]
     fn refusals_come_by_number() {
         let centroids = of_one_reading(&[1.0, 2.0]);
-        assert_eq!(centroids.label(0, &[]), Err(1));
-        assert_eq!(centroids.label(1, &[1.0, 2.0]), Err(2));
-        assert_eq!(of_one_reading(&[]).label(1, &[1.0]), Err(1));
+        assert_eq!(centroids.place(0, 1, &[]), Err(1));
+        assert_eq!(centroids.place(1, 1, &[1.0, 2.0]), Err(2));
+        assert_eq!(of_one_reading(&[]).place(1, 1, &[1.0]), Err(1));
         assert_eq!(centroids.closure(65, 1, 0.0, &[1.0]), Err(1));
         assert_eq!(centroids.closure(1, 1, 0.0, &[1.0, 2.0]), Err(2));
         assert_eq!(centroids.closure(1, 0, 0.0, &[f32::NAN]), Err(5));

@@ -15,7 +15,12 @@ pub struct Family {
 pub struct Grouping {
     pub families: Vec<Family>,
     pub splits: u32,
+    /// Rows that matched no part of a split, summed over the splits: a meter may count several times.
+    pub unplaced: u32,
 }
+
+/// What that sum is called wherever it is shown.
+pub const UNPLACED: &str = "unplaced rows, summed over splits";
 
 /// Where a meter stands on the bench; both are counted from 1, as trays and their places are.
 #[derive(Clone, Copy, Debug, PartialEq, Eq)]
@@ -84,6 +89,7 @@ pub mod tests {
             grouping: Grouping {
                 families: vec![family(&[2, 0], [0.5, 0.1]), family(&[1], [-0.25, 3.0])],
                 splits: 1,
+                unplaced: 0,
             },
             warnings: vec!["look out".into()],
         }

@@ -1,4 +1,4 @@
-//! `families label`: the nearest centroid of each row.
+//! `families label`: the nearest centroid of each row and its distance, or that the row matches none.
 
 use clap::Args;
 
@@ -16,9 +16,8 @@ impl Label {
     pub fn run(&self) -> Result<Done, Failure> {
         let given = self.nearest.read()?;
         let notes = self.nearest.warned(&given)?;
-        let text = given.each_row(1, |row| Ok(vec![given.centroids.label(given.dim, row)?]))?;
         Ok(Done {
-            output: text.into_bytes(),
+            output: given.placements()?.into_bytes(),
             notes,
             ..Done::default()
         })

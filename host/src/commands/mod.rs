@@ -44,7 +44,10 @@ enum Command {
     Batch(batch::Batch),
     /// Have the listing program group a batch file, and print the families
     List(list::List),
-    /// Print the nearest centroid of each row
+    /// Print the nearest centroid of each row and its squared distance, or `unplaced`
+    ///
+    /// A line is NAME: NUMBER DISTANCE, the distance being the score that was the smallest of all, a squared distance; or NAME: unplaced
+    /// where no centroid has a score below infinity.
     Label(label::Label),
     /// Print the centroids that each row is offered
     Closure(closure::Closure),

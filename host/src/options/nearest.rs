@@ -1,6 +1,7 @@
 //! Rows that are held against given centroids, and the lines that come of it.
 
 use clap::Args;
+use engine::exported::Placement;
 
 use super::grouping::warned;
 use super::reading::{asked, source, ReadingOptions};
@@ -85,6 +86,30 @@ impl NearestOptions {
 }
 
 impl Given {
+    /// A line for each row: its name, and the nearest centroid with the distance, or that there is none.
+    pub fn placements(&self) -> Result<String, Failure> {
+        // Nothing is asked of no rows, which may tell no number of readings.
+        if self.rows.rows == 0 {
+            return Ok(String::new());
+        }
+        let rows = self.rows.rows as u32;
+        // Rows are all of one length, so that where one is refused all are, the first of them too.
+        let placements = self
+            .centroids
+            .place(self.dim, rows, &self.rows.values)
+            .map_err(|number| self.refused(number, 0, 1))?;
+        let line = |(row, placement): (usize, &Placement)| {
+            let found = match placement {
+                Placement::Placed { label, distance } => {
+                    format!("{} {distance}", self.centroid(*label))
+                }
+                Placement::Unplaced => " unplaced".to_string(),
+            };
+            format!("{}:{found}\n", self.rows.name(row))
+        };
+        Ok(placements.iter().enumerate().map(line).collect())
+    }
+
     /// A line for each row: its name, and each centroid with its number and name. Nothing is printed where one row is refused: half an
     /// answer could be taken for a whole one.
     pub fn each_row(
@@ -94,19 +119,9 @@ impl Given {
     ) -> Result<String, Failure> {
         let mut text = String::new();
         for row in 0..self.rows.rows {
-            let name = self.rows.name(row);
-            let values = self.rows.row(row);
-            let numbers = answer(values).map_err(|number| {
-                let call = Nearest {
-                    dim: self.dim as usize,
-                    row: values,
-                    centroids: &self.centroid_table,
-                    fewest,
-                };
-                let why = refusals::of_row(number, call);
-                Failure::refused(number, format!("{}: {name}", self.source), why)
-            })?;
-            text.push_str(&name);
+            let numbers =
+                answer(self.rows.row(row)).map_err(|number| self.refused(number, row, fewest))?;
+            text.push_str(&self.rows.name(row));
             text.push(':');
             for number in numbers {
                 text.push_str(&self.centroid(number));
@@ -114,6 +129,18 @@ impl Given {
             text.push('\n');
         }
         Ok(text)
+    }
+
+    fn refused(&self, number: u32, row: usize, fewest: i64) -> Failure {
+        let call = Nearest {
+            dim: self.dim as usize,
+            row: self.rows.row(row),
+            centroids: &self.centroid_table,
+            fewest,
+        };
+        let name = self.rows.name(row);
+        let why = refusals::of_row(number, call);
+        Failure::refused(number, format!("{}: {name}", self.source), why)
     }
 
     fn centroid(&self, number: u16) -> String {

@@ -13,6 +13,8 @@ struct Whole<'a> {
     reading_names: Option<&'a [String]>,
     settings: Settings,
     splits: u32,
+    /// No number of meters: one counts in every split that does not place it.
+    unplaced_rows_summed_over_splits: u32,
     warnings: &'a [String],
     families: Vec<Family<'a>>,
 }
@@ -84,6 +86,7 @@ pub fn families(report: &Report) -> String {
         reading_names: report.table.names.as_deref(),
         settings: settings(report),
         splits: report.grouping.splits,
+        unplaced_rows_summed_over_splits: report.grouping.unplaced,
         warnings: &report.warnings,
         families: families.collect(),
     };
@@ -137,12 +140,22 @@ mod tests {
                    "seed": "18446744073709551615", "draws": 3, "tray": 2})
         );
         assert_eq!((&value["meters"], &value["splits"]), (&json!(3), &json!(1)));
+        assert_eq!(value["unplaced_rows_summed_over_splits"], 0);
         assert_eq!(value["warnings"], json!(["look out"]));
         assert_eq!(
             value["families"][0]["meters"],
             json!([{"serial": "C", "row": 2, "tray": 2, "place": 1},
                    {"serial": "A 1", "row": 0, "tray": 1, "place": 1}])
         );
+    }
+
+    #[test]
+    fn unplaced_rows_are_a_figure_of_their_own() {
+        let mut report = report();
+        report.grouping.unplaced = 7;
+        let value = value(&report);
+        assert_eq!(value["unplaced_rows_summed_over_splits"], 7);
+        assert_eq!(value["meters"], 3);
     }
 
     #[test]

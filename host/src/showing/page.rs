@@ -12,7 +12,7 @@ mod text;
 use self::chart::Chart;
 use self::spread::Spreads;
 use self::text::escape;
-use crate::answers::report::Report;
+use crate::answers::report::{Report, UNPLACED};
 
 /// The whole page.
 pub fn html(report: &Report) -> String {
@@ -43,10 +43,12 @@ fn head(report: &Report) -> String {
 }
 
 fn result(report: &Report) -> String {
+    let grouping = &report.grouping;
     facts(&[
         ("meters", report.meters().to_string()),
-        ("families", report.grouping.families.len().to_string()),
-        ("splits", report.grouping.splits.to_string()),
+        ("families", grouping.families.len().to_string()),
+        ("splits", grouping.splits.to_string()),
+        (UNPLACED, grouping.unplaced.to_string()),
     ])
 }
 

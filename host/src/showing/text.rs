@@ -2,12 +2,13 @@
 
 use std::fmt::Write;
 
-use crate::answers::report::Report;
+use crate::answers::report::{Report, UNPLACED};
 
 /// The first line is that of `families list`; each meter stands with its tray and place.
 pub fn families(report: &Report) -> String {
     let grouping = &report.grouping;
     let mut text = summary(grouping.families.len(), report.meters(), grouping.splits);
+    let _ = writeln!(text, "{UNPLACED}: {}", grouping.unplaced);
     for (number, family) in grouping.families.iter().enumerate() {
         let mean: Vec<String> = family.mean.iter().map(f32::to_string).collect();
         let meters: Vec<String> = family.rows.iter().map(|row| meter(report, *row)).collect();
@@ -39,8 +40,18 @@ mod tests {
         assert_eq!(
             families(&report()),
             "2 families, 3 meters, 1 splits\n\
+             unplaced rows, summed over splits: 0\n\
              family 0, 2 meters\n  mean 0.5 0.1\n  C@2/1 \"A 1\"@1/1\n\
              family 1, 1 meters\n  mean -0.25 3\n  B@1/2\n"
         );
+    }
+
+    #[test]
+    fn unplaced_rows_have_a_line_of_their_own() {
+        let mut report = report();
+        report.grouping.unplaced = 7;
+        let second =
+            "2 families, 3 meters, 1 splits\nunplaced rows, summed over splits: 7\nfamily 0, ";
+        assert!(families(&report).starts_with(second));
     }
 }

@@ -36,6 +36,7 @@ fn families_have_serials_sizes_means_trays_and_places() {
     assert_eq!(
         run.text(),
         "2 families, 4 meters, 1 splits\n\
+         unplaced rows, summed over splits: 0\n\
          family 0, 2 meters\n  mean 10.5\n  C3@1/3 D4@2/1\n\
          family 1, 2 meters\n  mean 0.5\n  A1@1/1 \"B 2\"@1/2\n"
     );
@@ -64,7 +65,36 @@ fn json_has_everything() {
     assert_eq!(whole["settings"]["budget"], 8_192);
     assert_eq!(whole["families"][0]["mean"], serde_json::json!([10.5]));
     assert_eq!(whole["families"][0]["meters"][0]["serial"], "C3");
+    assert_eq!(whole["unplaced_rows_summed_over_splits"], 0);
     assert_eq!(whole["warnings"], serde_json::json!([]));
+}
+
+/// Four meters whose squares overflow, parted by balancing alone: four rows, then three of them, then two.
+#[test]
+fn unplaced_rows_are_summed_over_splits() {
+    let folder = Folder::new("group_unplaced");
+    let csv = numbered(4, |row| 2e19 + row as f32 * 1e18);
+    let words = "--limit 1 --branching 2 --weight 0.5 --seed 1";
+    let run = group(&folder, &csv, words);
+    let begins = "4 families, 4 meters, 3 splits\nunplaced rows, summed over splits: 9\nfamily 0, ";
+    assert!(run.text().starts_with(begins), "{run:?}");
+    let run = group(&folder, &csv, &format!("{words} --format json"));
+    let whole: serde_json::Value = serde_json::from_str(run.text()).unwrap();
+    assert_eq!(whole["unplaced_rows_summed_over_splits"], 9);
+    let page = folder.run(&[
+        "page",
+        "r.csv",
+        "--limit",
+        "1",
+        "--branching",
+        "2",
+        "--weight",
+        "0.5",
+        "--seed",
+        "1",
+    ]);
+    let fact = "<dt>unplaced rows, summed over splits</dt><dd>9</dd>";
+    assert!(page.text().contains(fact));
 }
 
 #[test]
@@ -75,7 +105,7 @@ fn means_are_a_file_of_centroids() {
     assert_eq!(means, "family,error\nfamily 0,10.5\nfamily 1,0.5\n");
     let labels = folder.run(&["label", "r.csv", "--centroids", "m.csv"]);
     assert!(
-        labels.text().ends_with("D4: 0 \"family 0\"\n"),
+        labels.text().ends_with("D4: 0 \"family 0\" 0.25\n"),
         "{labels:?}"
     );
 }
@@ -154,7 +184,8 @@ fn the_most_meters_and_readings_are_grouped_each_once() {
 fn no_meters_are_no_families() {
     let folder = Folder::new("group_none");
     let run = group(&folder, "serial,low\n", "");
-    assert_eq!(run.text(), "0 families, 0 meters, 0 splits\n");
+    let empty = "0 families, 0 meters, 0 splits\nunplaced rows, summed over splits: 0\n";
+    assert_eq!(run.text(), empty);
     group(&folder, "", "").fails(3, &["r.csv", "empty"]);
 }
 
@@ -292,7 +323,7 @@ fn listing(folder: &Folder) -> String {
 /// The families that two commands print, each as its meters in their order.
 fn families(text: &str) -> Vec<Vec<String>> {
     let mut families: Vec<Vec<String>> = Vec::new();
-    for line in text.lines().skip(1) {
+    for line in text.lines().skip_while(|line| !line.starts_with("family")) {
         let words = line.split(": ").nth(1).unwrap_or(line);
         let meters = words
             .split_whitespace()

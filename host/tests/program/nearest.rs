@@ -14,11 +14,29 @@ fn run(test: &str, rows: &str, centroids: &str, words: &[&str]) -> Run {
 #[test]
 fn p5_to_p7_are_labelled() {
     let p5 = run("label_p5", "1\n", "1\n1\n", &["label"]);
-    assert_eq!(p5.text(), "0: 0\n");
+    assert_eq!(p5.text(), "0: 0 0\n");
     let p6 = run("label_p6", "2\n", "nan\n2\n", &["label", "--not-finite"]);
-    assert_eq!(p6.text(), "0: 1\n");
+    assert_eq!(p6.text(), "0: 1 0\n");
     let p7 = run("label_p7", "NaN\n", "1\n2\n", &["label", "--not-finite"]);
-    assert_eq!(p7.text(), "0: 0\n");
+    assert_eq!(p7.text(), "0: unplaced\n");
+}
+
+#[test]
+fn each_row_has_its_distance_or_is_unplaced() {
+    let rows = "serial,low\nA,0.1\nB,nan\nC,-2\nD,inf\nE,2e19\n";
+    let centroids = "name,low\nfar,-1.5\nodd,nan\n";
+    let words = ["label", "--not-finite"];
+    let named = run("label_distances", rows, centroids, &words);
+    assert_eq!(
+        named.text(),
+        "A: 0 far 2.56\nB: unplaced\nC: 0 far 0.25\nD: unplaced\nE: unplaced\n"
+    );
+    // The shortest decimal that gives the float back, however small.
+    let tiny = run("label_tiny", "1e-20\n", "0\n", &["label"]);
+    let distance = tiny.text().trim_end().strip_prefix("0: 0 ").unwrap();
+    assert_eq!(distance.parse(), Ok(1e-20f32 * 1e-20f32));
+    let none = run("label_no_rows", "", "1\n", &["label"]);
+    assert_eq!(none.text(), "");
 }
 
 #[test]
@@ -37,7 +55,7 @@ fn every_row_is_answered_under_its_serial() {
     let rows = "serial,low,high\nA1,0,0\n\"B 2\",9,9\n";
     let centroids = "10.0,10\n0,1\n";
     let labels = run("label_serials", rows, centroids, &["label", "--dim", "2"]);
-    assert_eq!(labels.text(), "A1: 1\n\"B 2\": 0\n");
+    assert_eq!(labels.text(), "A1: 1 1\n\"B 2\": 0 2\n");
     let words = ["closure", "--replicas", "1", "--epsilon", "0"];
     let offered = run("closure_serials", rows, centroids, &words);
     assert_eq!(offered.text(), "A1: 1\n\"B 2\": 0\n");
@@ -53,14 +71,14 @@ fn the_sample_falls_into_its_four_kinds() {
     let of_kind = |kind: &str| {
         run.text()
             .lines()
-            .filter(|line| line.ends_with(kind))
+            .filter(|line| line.contains(kind))
             .count()
     };
     let kinds = [
-        ": 0 sound",
-        ": 1 \"low gain\"",
-        ": 2 \"phase shift\"",
-        ": 3 \"weak start\"",
+        ": 0 sound 0.",
+        ": 1 \"low gain\" 0.",
+        ": 2 \"phase shift\" 0.",
+        ": 3 \"weak start\" 0.",
     ];
     assert_eq!(kinds.map(of_kind), [14, 11, 9, 6]);
 }
@@ -98,7 +116,7 @@ fn names_of_centroids_are_told_from_their_readings() {
     ];
     label("label_unclear", &["label"]).fails(3, &asks);
     let named = label("label_named", &["label", "--centroid-names"]);
-    assert_eq!(named.text(), "A: 0 7\n");
+    assert_eq!(named.text(), "A: 0 7 1\n");
     label("label_unnamed", &["label", "--no-centroid-names"]).fails(1, &["refused 2: "]);
     let both = ["label", "--centroid-names", "--no-centroid-names"];
     label("label_both", &both).fails(2, &["--no-centroid-names"]);
@@ -111,7 +129,7 @@ fn rows_come_from_standard_input_too() {
     folder.write("rows.csv", "1.75\n");
     let mut command = folder.command(&["label", "-", "--centroids", "c.csv"]);
     let rows = std::fs::File::open(folder.path().join("rows.csv")).unwrap();
-    assert_eq!(Run::of(command.stdin(rows)).text(), "0: 1\n");
+    assert_eq!(Run::of(command.stdin(rows)).text(), "0: 1 0.0625\n");
 }
 
 #[test]

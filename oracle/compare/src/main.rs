@@ -19,6 +19,7 @@ use compare::proved::Compared;
 use compare::stack;
 use compare::tally::Tally;
 use oracle::cases::{ClosureBytesCase, GroupingCase, KMeansCase, LabelBytesCase, LabelCase};
+use oracle::cases::{PlaceCase, RestartsCase};
 
 /// The built cases and `count` generated ones of one kind.
 fn compare<C: Compared>(seed: u64, count: u64) -> Tally {
@@ -41,8 +42,10 @@ fn calls(seed: u64, times: u64) -> Vec<Tally> {
     vec![
         compare::<LabelBytesCase>(seed, 30_000 * times),
         compare::<LabelCase>(seed, 25_000 * times),
+        compare::<PlaceCase>(seed, 25_000 * times),
         compare::<ClosureBytesCase>(seed, 55_000 * times),
         compare::<KMeansCase>(seed, 6_000 * times),
+        compare::<RestartsCase>(seed, 3_000 * times),
         compare::<GroupingCase>(seed, 6_000 * times),
     ]
 }

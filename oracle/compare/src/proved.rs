@@ -2,7 +2,7 @@
 
 use engine::exported;
 use oracle::cases::{BytesOutcome, Case, ClosureBytesCase};
-use oracle::cases::{LabelBytesCase, LabelCase, LabelOutcome};
+use oracle::cases::{LabelBytesCase, LabelCase, LabelOutcome, PlaceCase, PlaceOutcome};
 use oracle::cases::{STALE_BYTE, STALE_CELL, STALE_FLOAT};
 use oracle::refusal::Refusal;
 
@@ -14,7 +14,7 @@ mod kmeans;
 /// What the proved library answered and left.
 pub struct Proved<Outcome> {
     pub outcome: Outcome,
-    /// Whether all work slices ended all zero, and a refusal's figures blank.
+    /// Whether all work slices ended all zero, and a refusal's figures blank: it carries its number alone.
     pub tidy: bool,
 }
 
@@ -104,11 +104,21 @@ impl Compared for ClosureBytesCase {
 }
 
 impl Compared for LabelCase {
-    const NEEDS: &'static [Need] = &[("accepted", 100), ("refused 1", 100), ("refused 2", 100)];
+    const NEEDS: &'static [Need] = &[
+        ("accepted", 100),
+        ("refused 1", 100),
+        ("refused 2", 100),
+        ("a NaN row", 100),
+        ("an infinite row", 100),
+        ("a row whose norm overflows", 100),
+        ("a NaN centroid", 100),
+        ("all rows unplaced", 100),
+        ("unplaced rows beside family 0", 100),
+    ];
 
     fn proved(&self) -> Proved<LabelOutcome> {
         let mut labels = vec![STALE_CELL; self.label_cells];
-        let number = exported::label_rows(
+        let told = exported::label_rows(
             self.rows,
             self.dim,
             self.k,
@@ -116,11 +126,69 @@ impl Compared for LabelCase {
             &self.centroids,
             &mut labels,
         );
-        Proved::without_work(LabelOutcome {
-            answer: answer(number, ()),
-            labels,
-        })
+        Proved {
+            outcome: LabelOutcome {
+                answer: answer(told.number, told.unplaced),
+                labels,
+            },
+            tidy: told.number == 0 || told.unplaced == 0,
+        }
     }
+
+    fn kinds(&self, outcome: &LabelOutcome) -> Vec<String> {
+        let shown = |unplaced| self.unplaced_kinds(&outcome.labels, unplaced);
+        kinds(Self::number(outcome), outcome.answer.map_or(vec![], shown))
+    }
+}
+
+impl Compared for PlaceCase {
+    const NEEDS: &'static [Need] = &[
+        ("accepted", 100),
+        ("refused 1", 100),
+        ("refused 2", 100),
+        ("refused 2 for distances alone", 100),
+        ("a NaN row", 100),
+        ("an infinite row", 100),
+        ("a row whose norm overflows", 100),
+        ("a NaN centroid", 100),
+        ("all rows unplaced", 100),
+        ("unplaced rows beside family 0", 100),
+        ("unplaced rows beside a distance of 0", 100),
+    ];
+
+    fn proved(&self) -> Proved<PlaceOutcome> {
+        let case = &self.labelling;
+        let mut labels = vec![STALE_CELL; case.label_cells];
+        let mut distances = vec![STALE_FLOAT; self.distance_cells];
+        let told = exported::place_cells(
+            case.rows,
+            case.dim,
+            case.k,
+            &case.values,
+            &case.centroids,
+            &mut labels,
+            &mut distances,
+        );
+        Proved {
+            outcome: PlaceOutcome::new(answer(told.number, told.unplaced), labels, &distances),
+            tidy: told.number == 0 || told.unplaced == 0,
+        }
+    }
+
+    fn kinds(&self, outcome: &PlaceOutcome) -> Vec<String> {
+        let number = Self::number(outcome);
+        let mut kinds = kinds(number, self.unplaced_kinds(outcome));
+        if number == 2 && self.labelling.run().answer.is_ok() {
+            kinds.push("refused 2 for distances alone".into());
+        }
+        kinds
+    }
+}
+
+/// The kind of the answer, and what else the case shows.
+fn kinds(number: u32, shown: Vec<&str>) -> Vec<String> {
+    let shown = shown.into_iter().map(String::from);
+    std::iter::once(number_kind(number)).chain(shown).collect()
 }
 
 fn answer<T>(number: u32, accepted: T) -> Result<T, Refusal> {

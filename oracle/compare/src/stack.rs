@@ -30,6 +30,7 @@ pub fn call(name: &str, stack: usize) -> Option<bool> {
         "families_label" => hold(stack, heavy::label_bytes(), proved),
         "families_closure" => hold(stack, heavy::closure_bytes(), proved),
         "families_label_rows" => hold(stack, heavy::label_rows(), proved),
+        "families_place_rows" => hold(stack, heavy::place_rows(), proved),
         "families_kmeans" => hold(stack, heavy::kmeans(), proved),
         "families_group" => hold(stack, heavy::grouping(), proved),
         "families_list" => hold(stack, heavy::files(), listed),

@@ -16,14 +16,22 @@ fn median(mut times: Vec<f64>) -> f64 {
     times[times.len() / 2]
 }
 
-/// Medians of both, run in turn so that both meet the same weather.
-pub fn side_by_side(rounds: usize, mut ours: impl FnMut(), mut theirs: impl FnMut()) -> (f64, f64) {
-    let mut times = (Vec::new(), Vec::new());
-    for _ in 0..rounds {
-        times.0.push(seconds(&mut ours));
-        times.1.push(seconds(&mut theirs));
-    }
-    (median(times.0), median(times.1))
+/// The seconds of both in every round, run in turn so that both meet the same weather.
+fn in_turn(rounds: usize, mut ours: impl FnMut(), mut theirs: impl FnMut()) -> Vec<(f64, f64)> {
+    (0..rounds)
+        .map(|_| (seconds(&mut ours), seconds(&mut theirs)))
+        .collect()
+}
+
+/// The median of each side.
+pub fn medians(times: &[(f64, f64)]) -> (f64, f64) {
+    let (ours, theirs) = times.iter().copied().unzip();
+    (median(ours), median(theirs))
+}
+
+/// Medians of both, run in turn.
+pub fn side_by_side(rounds: usize, ours: impl FnMut(), theirs: impl FnMut()) -> (f64, f64) {
+    medians(&in_turn(rounds, ours, theirs))
 }
 
 /// Seconds that a run should take at least: the clock and a stray interruption weigh too much in a shorter one.
@@ -31,16 +39,26 @@ const LEAST: f64 = 1e-3;
 
 /// As `side_by_side`, with ours run again and again for as long as theirs takes: on a busy machine a longer run is interrupted more
 /// often than a short one, which would flatter the faster side. Theirs too is run again where it takes less than a millisecond.
-pub fn as_long(rounds: usize, mut ours: impl FnMut(), mut theirs: impl FnMut()) -> (f64, f64) {
+pub fn as_long(rounds: usize, ours: impl FnMut(), theirs: impl FnMut()) -> (f64, f64) {
+    medians(&rounds_as_long(rounds, ours, theirs))
+}
+
+/// The seconds of both in every round of `as_long`.
+pub fn rounds_as_long(
+    rounds: usize,
+    mut ours: impl FnMut(),
+    mut theirs: impl FnMut(),
+) -> Vec<(f64, f64)> {
     let once = side_by_side(3, &mut ours, &mut theirs);
     let their_times = (LEAST / once.1).ceil().max(1.0);
     let our_times = (their_times * once.1 / once.0).round().max(1.0);
-    let (many, others) = side_by_side(
+    let times = in_turn(
         rounds,
         || (0..our_times as usize).for_each(|_| ours()),
         || (0..their_times as usize).for_each(|_| theirs()),
     );
-    (many / our_times, others / their_times)
+    let one = |(many, others)| (many / our_times, others / their_times);
+    times.into_iter().map(one).collect()
 }
 
 /// Whether the command's words after the rounds all stand in the name of what is to be measured.

@@ -56,7 +56,7 @@ impl Stored for KMeansCase {
 
     fn words(&self, outcome: &Self::Outcome) -> Vec<u32> {
         let n = &self.numbers;
-        let (objective, restart) = outcome.answer.unwrap_or((0, 0));
+        let (objective, restart, _) = outcome.answer.unwrap_or((0, 0, 0));
         vec![
             n.rows,
             n.dim,

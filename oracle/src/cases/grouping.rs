@@ -1,5 +1,6 @@
 //! Cases of grouping.
 
+use super::unplaced::{row_kind, row_kinds, unplace, NAN_ROW};
 use super::values::{Flavour, Source};
 use super::{
     all_float_bits, draw_list, length_of, outside, pass_kinds, size, usual_dim, wrong_draw_list,
@@ -164,6 +165,19 @@ impl GroupingCase {
         }
     }
 
+    /// A row or two that nothing places. Balancing puts others beside such a row, and under a small
+    /// limit they are split again, that row with them.
+    fn unplace(&mut self, random: &mut Random) {
+        let few = random.choose(&[1, 1, 2]);
+        unplace(random, &mut self.values, self.numbers.dim, few);
+        if random.once_in(2) && (1..=60).contains(&self.numbers.rows) {
+            self.numbers.branching = random.between(2, 3);
+            self.numbers.size_limit = random.between(self.numbers.branching - 1, 5);
+            self.numbers.weight = random.choose(&[0.1, 0.25, 0.5, 1.0]);
+            self.numbers.budget = 60;
+        }
+    }
+
     /// Readings so far from zero that some picks part nothing: with the same picks in every split
     /// the budget is spent, and on later passes through the list others part the group.
     pub fn stubborn() -> Self {
@@ -177,6 +191,24 @@ impl GroupingCase {
             &self.draws,
             u64::from(splits) * u64::from(self.numbers.branching),
         )
+    }
+
+    /// What an accepted call of several splits or one shows of its unplaced rows.
+    pub fn unplaced_kinds(&self, accepted: &GroupingAccepted) -> Vec<&'static str> {
+        let dim = self.numbers.dim;
+        let mut kinds = row_kinds(&self.values, dim);
+        if accepted.unplaced > 0 {
+            kinds.push("unplaced rows");
+        }
+        let rows = self.values.chunks_exact(dim as usize);
+        let odd: Vec<_> = rows.filter_map(row_kind).collect();
+        if accepted.splits > 1 && accepted.unplaced > 1 && odd == [NAN_ROW] {
+            kinds.push("one NaN row, several splits and more than one unplaced");
+        }
+        if accepted.unplaced > self.numbers.rows {
+            kinds.push("more unplaced than there are rows");
+        }
+        kinds
     }
 
     /// Rows of one value, and draws of zero.
@@ -216,6 +248,9 @@ impl Case for GroupingCase {
         }
         if spoils.once_in(random, 16) {
             case.draws = wrong_draw_list(random);
+        }
+        if random.once_in(6) {
+            case.unplace(random);
         }
         case
     }

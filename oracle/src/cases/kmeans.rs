@@ -1,5 +1,6 @@
 //! Cases of k-means.
 
+use super::unplaced::{row_kinds, unplace};
 use super::values::{power_of_two, Source};
 use super::{
     all_float_bits, double_bits, draw_list, length_of, outside, pass_kinds, size, usual_dim,
@@ -9,6 +10,8 @@ use crate::calls::{
     kmeans, KMeansAccepted, KMeansLent, KMeansNumbers, BLOCK, DIM, ITERATIONS, K, KMEANS_ROWS,
     POINTS_PER_CENTROID, RESTARTS,
 };
+use crate::draws::Draws;
+use crate::kmeans::{run_kmeans_flat, KMeansConfig, KMeansResult};
 use crate::random::Random;
 use crate::refusal::Refusal;
 
@@ -27,8 +30,8 @@ pub struct KMeansCase {
 
 #[derive(Clone, Debug, PartialEq, Eq)]
 pub struct KMeansOutcome {
-    /// The objective's bits and the restart, or the refusal.
-    pub answer: Result<(u64, u32), Refusal>,
+    /// The objective's bits, the restart and its unplaced rows, or the refusal.
+    pub answer: Result<(u64, u32, u32), Refusal>,
     pub labels: Vec<u16>,
     pub centroids: Vec<u32>,
 }
@@ -39,8 +42,12 @@ impl KMeansOutcome {
         labels: Vec<u16>,
         centroids: &[f32],
     ) -> Self {
+        let told = |found: KMeansAccepted| {
+            let objective = double_bits(found.objective);
+            (objective, found.restart, found.unplaced)
+        };
         Self {
-            answer: answer.map(|found| (double_bits(found.objective), found.restart)),
+            answer: answer.map(told),
             labels,
             centroids: all_float_bits(centroids),
         }
@@ -131,6 +138,45 @@ impl KMeansCase {
     pub fn pass_kinds(&self) -> Vec<&'static str> {
         let picks = u64::from(self.numbers.restarts) * u64::from(self.numbers.k);
         pass_kinds(&self.draws, picks)
+    }
+
+    /// What an accepted call of so many unplaced rows shows of them.
+    pub fn unplaced_kinds(&self, unplaced: u32) -> Vec<&'static str> {
+        let mut kinds = row_kinds(&self.values, self.numbers.dim);
+        if unplaced > 0 {
+            kinds.push("unplaced rows");
+        }
+        let last = self.unplaced_in_last().unwrap_or(unplaced);
+        if unplaced < last {
+            kinds.push("fewer unplaced than in the last restart");
+        }
+        if unplaced > last {
+            kinds.push("more unplaced than in the last restart");
+        }
+        kinds
+    }
+
+    /// How many rows the last of several restarts leaves unplaced, kept or not: where every row
+    /// trains, it is a call by itself which goes on with the draws.
+    fn unplaced_in_last(&self) -> Option<u32> {
+        let config = self.numbers.config();
+        let most = self.numbers.k * self.numbers.points_per_centroid;
+        if config.nredo < 2 || most < self.numbers.rows {
+            return None;
+        }
+        let draws = &mut Draws::new(&self.draws);
+        self.restarts(config.nredo - 1, draws);
+        Some(self.restarts(1, draws).unplaced)
+    }
+
+    fn restarts(&self, nredo: usize, draws: &mut Draws) -> KMeansResult {
+        let n = &self.numbers;
+        let config = KMeansConfig {
+            nredo,
+            ..n.config()
+        };
+        let (rows, dim, k) = (n.rows as usize, n.dim as usize, n.k as usize);
+        run_kmeans_flat(&self.values, rows, dim, k, config, draws)
     }
 
     /// Two restarts of which one has a NaN objective and the other an infinite one, the NaN
@@ -246,5 +292,44 @@ impl Case for KMeansCase {
 
     fn number(outcome: &KMeansOutcome) -> u32 {
         outcome.answer.err().map_or(0, Refusal::number)
+    }
+}
+
+/// Few rows of which some are unplaced, and several restarts, so that these differ in how many are.
+#[derive(Clone, Debug)]
+pub struct RestartsCase(pub KMeansCase);
+
+impl Case for RestartsCase {
+    type Outcome = KMeansOutcome;
+    const NAME: &'static str = "k-means restarts";
+
+    fn generate(seed: u64, index: u64) -> Self {
+        let random = &mut Random::new(seed, 9, index);
+        let rows = random.between(2, 12);
+        let numbers = KMeansNumbers {
+            rows,
+            dim: random.between(1, 3),
+            k: random.between(1, rows.min(3)),
+            iterations: random.between(1, 4),
+            restarts: random.between(2, 4),
+            points_per_centroid: random.choose(&[1, 2, rows, rows, rows]),
+            block: random.choose(&[1, 5, BLOCK.high]),
+        };
+        let mut case = KMeansCase::of(random, numbers);
+        let few = random.between(1, 3);
+        unplace(random, &mut case.values, numbers.dim, few);
+        Self(case)
+    }
+
+    fn built() -> Vec<Self> {
+        vec![]
+    }
+
+    fn run(&self) -> KMeansOutcome {
+        self.0.run()
+    }
+
+    fn number(outcome: &KMeansOutcome) -> u32 {
+        KMeansCase::number(outcome)
     }
 }

@@ -1,5 +1,6 @@
 //! Cases of labelling.
 
+use super::unplaced::{row_kinds, unplace};
 use super::values::{copy_some, Source};
 use super::{length_of, outside, size, usual_dim, wrong_length, Case, Spoils, STALE_CELL};
 use crate::calls::{labelling, DIM, K, ROWS};
@@ -18,7 +19,8 @@ pub struct LabelCase {
 
 #[derive(Clone, Debug, PartialEq, Eq)]
 pub struct LabelOutcome {
-    pub answer: Result<(), Refusal>,
+    /// How many rows are unplaced, or the refusal.
+    pub answer: Result<u32, Refusal>,
     pub labels: Vec<u16>,
 }
 
@@ -39,6 +41,56 @@ impl LabelCase {
             centroids,
             label_cells: length_of(rows, 1),
         }
+    }
+
+    pub(super) fn any(random: &mut Random) -> Self {
+        let spoils = Spoils::new(random);
+        let mut rows = size(random, 0, 60, ROWS.high, 200);
+        let mut dim = usual_dim(random);
+        let mut k = size(random, 1, 12, K.high, 12);
+        if spoils.once_in(random, 8) {
+            match random.below(3) {
+                0 => rows = outside(random, ROWS),
+                1 => dim = outside(random, DIM),
+                _ => k = outside(random, K),
+            }
+        }
+        let mut case = Self::of(random, rows, dim, k);
+        if spoils.once_in(random, 8) {
+            case.spoil_a_length(random);
+        }
+        if random.once_in(8) {
+            case.unplace(random);
+        }
+        case
+    }
+
+    /// Some rows, some centroids or both take a value that places nothing.
+    fn unplace(&mut self, random: &mut Random) {
+        let which = random.below(3);
+        let few = random.between(1, 4);
+        if which != 0 {
+            unplace(random, &mut self.values, self.dim, few);
+        }
+        if which != 1 {
+            unplace(random, &mut self.centroids, self.dim, few);
+        }
+    }
+
+    /// What an accepted call of so many unplaced rows shows of them.
+    pub fn unplaced_kinds(&self, labels: &[u16], unplaced: u32) -> Vec<&'static str> {
+        let mut kinds = row_kinds(&self.values, self.dim);
+        if self.centroids.iter().any(|value| value.is_nan()) {
+            kinds.push("a NaN centroid");
+        }
+        let zeros = labels.iter().filter(|&&label| label == 0).count();
+        if unplaced > 0 && zeros > unplaced as usize {
+            kinds.push("unplaced rows beside family 0");
+        }
+        if unplaced > 0 && unplaced == self.rows {
+            kinds.push("all rows unplaced");
+        }
+        kinds
     }
 
     fn spoil_a_length(&mut self, random: &mut Random) {
@@ -72,23 +124,7 @@ impl Case for LabelCase {
     const NAME: &'static str = "labelling";
 
     fn generate(seed: u64, index: u64) -> Self {
-        let random = &mut Random::new(seed, 1, index);
-        let spoils = Spoils::new(random);
-        let mut rows = size(random, 0, 60, ROWS.high, 200);
-        let mut dim = usual_dim(random);
-        let mut k = size(random, 1, 12, K.high, 12);
-        if spoils.once_in(random, 8) {
-            match random.below(3) {
-                0 => rows = outside(random, ROWS),
-                1 => dim = outside(random, DIM),
-                _ => k = outside(random, K),
-            }
-        }
-        let mut case = Self::of(random, rows, dim, k);
-        if spoils.once_in(random, 8) {
-            case.spoil_a_length(random);
-        }
-        case
+        Self::any(&mut Random::new(seed, 1, index))
     }
 
     fn built() -> Vec<Self> {

@@ -40,6 +40,7 @@ fn report(rows: &[&[f32]], groups: &[&[usize]]) -> Report {
         grouping: Grouping {
             families: families.collect(),
             splits: 6,
+            unplaced: 0,
         },
         warnings: vec![],
     }
@@ -291,6 +292,17 @@ fn head_tells_the_result_and_the_settings() {
         assert!(page.contains(&fact), "{fact}");
     }
     assert_eq!(times(&page, "readings.csv"), 2);
+}
+
+#[test]
+fn head_tells_of_unplaced_rows_as_summed_over_splits() {
+    let mut report = sample();
+    report.grouping.unplaced = 41;
+    let page = html(&report);
+    check_page(&page);
+    let fact = "<dt>unplaced rows, summed over splits</dt><dd>41</dd>";
+    assert_eq!(times(&page, fact), 1);
+    assert!(page.contains("<dt>meters</dt><dd>5</dd>"));
 }
 
 #[test]

@@ -132,6 +132,7 @@ fn measure(rounds: usize, batch: &Batch, name: &str) -> (f64, f64) {
         number: 0,
         groups: accepted.groups,
         splits: accepted.splits,
+        unplaced: accepted.unplaced,
     };
     let (proved, oracle) = as_long(
         rounds,

@@ -1,13 +1,15 @@
-//! Speed of two builds of the exported library, side by side in one run on one thread: the old one's median time over the new one's.
+//! Speed of two builds of the exported library, side by side in one run on one thread: the old one's median time over the new one's,
+//! and the same of every round.
 //!
 //! `benchmark_two OLD.so NEW.so [ROUNDS] [WORD..]`: all, or what has these words in its name. A build becomes such a file by
-//! `cc -shared -o NEW.so -Wl,--whole-archive target/staticlib/libexports.a -Wl,--no-whole-archive`.
+//! `cc -shared -o NEW.so -Wl,--whole-archive target/staticlib/libexports.a -Wl,--no-whole-archive`. It may be one of before request
+//! (ii) of document 02, whose functions have no place for how many rows are unplaced.
 
 use std::env::args;
 use std::ffi::{c_char, c_int, c_void, CString};
 use std::mem::transmute;
 
-use compare::timing::{as_long, rows_around, values};
+use compare::timing::{medians, rounds_as_long, rows_around, values};
 use oracle::random::Random;
 
 extern "C" {
@@ -18,72 +20,50 @@ extern "C" {
 /// Names are bound at once, and seen by nobody else: both builds have the same names.
 const NOW: c_int = 2;
 
-/// `families_kmeans` and `families_group` as docs/HOST.md has them.
-type KMeans = unsafe extern "C" fn(
-    u32,
-    u32,
-    u32,
-    u32,
-    u32,
-    u32,
-    u32,
-    *const u32,
-    usize,
-    *const f32,
-    usize,
-    *mut u16,
-    usize,
-    *mut f32,
-    usize,
-    *mut f64,
-    *mut u32,
-    *mut f32,
-    usize,
-) -> u32;
-type Group = unsafe extern "C" fn(
-    u32,
-    u32,
-    u32,
-    u32,
-    f32,
-    u32,
-    *const u32,
-    usize,
-    *const f32,
-    usize,
-    *mut u16,
-    usize,
-    *mut u16,
-    usize,
-    *mut f32,
-    usize,
-    *mut u32,
-    *mut u32,
-    *mut f32,
-    usize,
-    *mut f32,
-    usize,
-) -> u32;
+/// A function by its address, with its place for how many rows are unplaced or without.
+#[derive(Clone, Copy)]
+struct Function {
+    at: *mut c_void,
+    counts: bool,
+}
+
+/// Calls a function of docs/HOST.md: the arguments up to the place for the unplaced rows, and those behind it, each with its type.
+macro_rules! call {
+    ($function:expr, [$($value:expr => $type:ty),*], [$($later:expr => $later_type:ty),*]) => {{
+        type Without = unsafe extern "C" fn($($type,)* $($later_type),*) -> u32;
+        type With = unsafe extern "C" fn($($type,)* *mut u32, $($later_type),*) -> u32;
+        let Function { at, counts } = $function;
+        let mut unplaced = 0;
+        let number = match counts {
+            true => unsafe { transmute::<*mut c_void, With>(at)($($value,)* &mut unplaced, $($later),*) },
+            false => unsafe { transmute::<*mut c_void, Without>(at)($($value,)* $($later),*) },
+        };
+        assert_eq!(number, 0);
+    }};
+}
 
 struct Build {
-    kmeans: KMeans,
-    group: Group,
+    label_rows: Function,
+    kmeans: Function,
+    group: Function,
 }
 
 fn build(path: &str) -> Build {
     let text = |text: &str| CString::new(text).expect("no zero in a name");
     let library = unsafe { dlopen(text(path).as_ptr(), NOW) };
     assert!(!library.is_null(), "{path} cannot be opened");
+    let find = |name: &str| unsafe { dlsym(library, text(name).as_ptr()) };
+    // The function that came with the counts.
+    let counts = !find("families_place_rows").is_null();
     let function = |name: &str| {
-        let found = unsafe { dlsym(library, text(name).as_ptr()) };
-        assert!(!found.is_null(), "{path} has no {name}");
-        found
+        let at = find(name);
+        assert!(!at.is_null(), "{path} has no {name}");
+        Function { at, counts }
     };
-    unsafe {
-        Build {
-            kmeans: transmute::<*mut c_void, KMeans>(function("families_kmeans")),
-            group: transmute::<*mut c_void, Group>(function("families_group")),
-        }
+    Build {
+        label_rows: function("families_label_rows"),
+        kmeans: function("families_kmeans"),
+        group: function("families_group"),
     }
 }
 
@@ -118,90 +98,110 @@ impl Batch {
         }
     }
 
+    /// The labels against as many centroids as there are.
+    fn label_rows(&self, function: Function, centroids: &[f32]) -> Vec<u16> {
+        let (rows, dim) = (self.rows, self.dim);
+        let mut labels = vec![0; rows];
+        call!(
+            function,
+            [
+                rows as u32 => u32,
+                dim as u32 => u32,
+                (centroids.len() / dim) as u32 => u32,
+                self.values.as_ptr() => *const f32,
+                self.values.len() => usize,
+                centroids.as_ptr() => *const f32,
+                centroids.len() => usize,
+                labels.as_mut_ptr() => *mut u16,
+                labels.len() => usize
+            ],
+            []
+        );
+        labels
+    }
+
     /// Labels and centroids, by bits.
-    fn kmeans(&self, call: KMeans, k: usize) -> (Vec<u16>, Vec<u32>) {
+    fn kmeans(&self, function: Function, k: usize) -> (Vec<u16>, Vec<u32>) {
         let (rows, dim) = (self.rows, self.dim);
         let mut labels = vec![0; rows];
         let mut centroids = vec![0.0; k * dim];
         let mut training = vec![0.0; rows * dim];
         let (mut objective, mut restart) = (0.0, 0);
-        let number = unsafe {
-            call(
-                rows as u32,
-                dim as u32,
-                k as u32,
-                25,
-                2,
-                256,
-                32_768,
-                self.draws.as_ptr(),
-                self.draws.len(),
-                self.values.as_ptr(),
-                self.values.len(),
-                labels.as_mut_ptr(),
-                labels.len(),
-                centroids.as_mut_ptr(),
-                centroids.len(),
-                &mut objective,
-                &mut restart,
-                training.as_mut_ptr(),
-                training.len(),
-            )
-        };
-        assert_eq!(number, 0);
-        (
-            labels,
-            centroids
-                .iter()
-                .map(|value: &f32| value.to_bits())
-                .collect(),
-        )
+        call!(
+            function,
+            [
+                rows as u32 => u32,
+                dim as u32 => u32,
+                k as u32 => u32,
+                25 => u32,
+                2 => u32,
+                256 => u32,
+                32_768 => u32,
+                self.draws.as_ptr() => *const u32,
+                self.draws.len() => usize,
+                self.values.as_ptr() => *const f32,
+                self.values.len() => usize,
+                labels.as_mut_ptr() => *mut u16,
+                labels.len() => usize,
+                centroids.as_mut_ptr() => *mut f32,
+                centroids.len() => usize,
+                &mut objective => *mut f64,
+                &mut restart => *mut u32
+            ],
+            [
+                training.as_mut_ptr() => *mut f32,
+                training.len() => usize
+            ]
+        );
+        (labels, bits(&centroids))
     }
 
     /// Row order and means, by bits.
-    fn group(&self, call: Group, branching: u32) -> (Vec<u16>, Vec<u32>) {
+    fn group(&self, function: Function, branching: u32) -> (Vec<u16>, Vec<u32>) {
         let (rows, dim) = (self.rows, self.dim);
         let mut order = vec![0; rows];
         let mut ends = vec![0; rows];
         let mut means = vec![0.0; rows * dim];
-        let mut gathered = vec![0.0; rows * dim];
-        let mut training = vec![0.0; rows * dim];
+        let mut work = (vec![0.0; rows * dim], vec![0.0; rows * dim]);
         let (mut groups, mut splits) = (0, 0);
-        let number = unsafe {
-            call(
-                rows as u32,
-                dim as u32,
-                branching.max(40),
-                branching,
-                0.25,
-                8_192,
-                self.draws.as_ptr(),
-                self.draws.len(),
-                self.values.as_ptr(),
-                self.values.len(),
-                order.as_mut_ptr(),
-                order.len(),
-                ends.as_mut_ptr(),
-                ends.len(),
-                means.as_mut_ptr(),
-                means.len(),
-                &mut groups,
-                &mut splits,
-                gathered.as_mut_ptr(),
-                gathered.len(),
-                training.as_mut_ptr(),
-                training.len(),
-            )
-        };
-        assert_eq!(number, 0);
-        (
-            order,
-            means.iter().map(|value: &f32| value.to_bits()).collect(),
-        )
+        call!(
+            function,
+            [
+                rows as u32 => u32,
+                dim as u32 => u32,
+                branching.max(40) => u32,
+                branching => u32,
+                0.25 => f32,
+                8_192 => u32,
+                self.draws.as_ptr() => *const u32,
+                self.draws.len() => usize,
+                self.values.as_ptr() => *const f32,
+                self.values.len() => usize,
+                order.as_mut_ptr() => *mut u16,
+                order.len() => usize,
+                ends.as_mut_ptr() => *mut u16,
+                ends.len() => usize,
+                means.as_mut_ptr() => *mut f32,
+                means.len() => usize,
+                &mut groups => *mut u32,
+                &mut splits => *mut u32
+            ],
+            [
+                work.0.as_mut_ptr() => *mut f32,
+                work.0.len() => usize,
+                work.1.as_mut_ptr() => *mut f32,
+                work.1.len() => usize
+            ]
+        );
+        (order, bits(&means))
     }
 }
 
-/// One line: both medians, their ratio, and whether both gave the same.
+fn bits(values: &[f32]) -> Vec<u32> {
+    values.iter().map(|value| value.to_bits()).collect()
+}
+
+/// Two lines: both medians, their ratio, and whether both gave the same; and the ratio of every round.
 fn measure<T: PartialEq>(rounds: usize, name: &str, old: impl Fn() -> T, new: impl Fn() -> T) {
     if !args().skip(4).all(|word| name.contains(&word)) {
         return;
@@ -210,12 +210,32 @@ fn measure<T: PartialEq>(rounds: usize, name: &str, old: impl Fn() -> T, new: im
         true => "the same answers",
         false => "other answers",
     };
-    let (news, olds) = as_long(rounds, || drop(new()), || drop(old()));
+    let times = rounds_as_long(rounds, || drop(new()), || drop(old()));
+    let (news, olds) = medians(&times);
     let (olds, news) = (olds * 1e6, news * 1e6);
     println!(
         "{name}: old {olds:.1} us, new {news:.1} us, old/new {:.3}, {same}",
         olds / news
     );
+    let each = times.iter().map(|(new, old)| format!("{:.3}", old / new));
+    println!("    rounds: {}", each.collect::<Vec<_>>().join(" "));
+}
+
+/// Labelling at the shapes of `benchmark`.
+fn measure_labelling(rounds: usize, old: &Build, new: &Build) {
+    for (dim, k) in [(3, 16), (16, 16), (16, 64), (64, 64), (64, 16)] {
+        for rows in [4_096, 40] {
+            let batch = Batch::new(rows, dim, "shapeless");
+            let centroids = values(&mut Random::new(3, 97, (dim * 100 + k) as u64), k * dim);
+            let name = format!("labelling {rows}x{dim}, k {k}");
+            measure(
+                rounds,
+                &name,
+                || batch.label_rows(old.label_rows, &centroids),
+                || batch.label_rows(new.label_rows, &centroids),
+            );
+        }
+    }
 }
 
 fn main() {
@@ -227,6 +247,7 @@ fn main() {
         .first()
         .map_or(9, |word| word.parse().expect("a number of rounds"));
     let (old, new) = (build(old), build(new));
+    measure_labelling(rounds, &old, &new);
     for kind in KINDS {
         for (rows, dim, k) in [
             (4_096, 3, 16),

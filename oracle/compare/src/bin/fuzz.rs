@@ -12,8 +12,6 @@ use compare::files::{self, Program};
 use compare::hostile;
 use compare::tally::Tally;
 
-const FUNCTIONS: u64 = 5;
-
 fn usage() -> ! {
     eprintln!("fuzz calls SEED COUNT | fuzz files SEED COUNT [PROGRAM..]");
     exit(2)
@@ -30,7 +28,10 @@ fn main() -> ExitCode {
     let what = words.next().unwrap_or_else(|| usage());
     let (seed, count) = (number(words.next()), number(words.next()));
     let tallies: Vec<Tally> = match what.to_str() {
-        Some("calls") => hostile::calls::compare(seed, count.div_ceil(FUNCTIONS)).into(),
+        Some("calls") => {
+            let each = count.div_ceil(hostile::calls::FUNCTIONS as u64);
+            hostile::calls::compare(seed, each).into()
+        }
         Some("files") => {
             let words: Vec<OsString> = words.collect();
             let tally = match words.is_empty() {

@@ -1,6 +1,7 @@
 //! Calls of all exported functions with any numbers, lengths and contents.
 
 use oracle::calls::{self, GroupingNumbers, KMeansNumbers, Range};
+use oracle::cases::PlaceCase;
 use oracle::cases::{ClosureBytesCase, GroupingCase, KMeansCase, LabelBytesCase, LabelCase};
 use oracle::random::Random;
 
@@ -122,6 +123,15 @@ fn label_rows(random: &mut Random) -> LabelCase {
     }
 }
 
+fn place_rows(random: &mut Random) -> PlaceCase {
+    let labelling = label_rows(random);
+    let means = Means::new(random);
+    PlaceCase {
+        distance_cells: means.length(random, &[labelling.rows]),
+        labelling,
+    }
+}
+
 /// The product, as large as it can be told.
 fn product(numbers: &[u32]) -> u64 {
     let times = |product: u64, &number: &u32| product.saturating_mul(number.into());
@@ -229,12 +239,16 @@ fn run<C: Compared>(seed: u64, count: u64, needs: &[Need], make: fn(&mut Random)
     tally
 }
 
+/// How many functions there are.
+pub const FUNCTIONS: usize = 6;
+
 /// `count` calls of each function.
-pub fn compare(seed: u64, count: u64) -> [Tally; 5] {
+pub fn compare(seed: u64, count: u64) -> [Tally; FUNCTIONS] {
     [
         run(seed, count, &LABEL_NEEDS, label_bytes),
         run(seed, count, &CLOSURE_NEEDS, closure_bytes),
         run(seed, count, &LABEL_NEEDS, label_rows),
+        run(seed, count, &LABEL_NEEDS, place_rows),
         run(seed, count, &KMEANS_NEEDS, kmeans),
         run(seed, count, &GROUPING_NEEDS, grouping),
     ]

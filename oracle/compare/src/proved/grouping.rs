@@ -39,7 +39,12 @@ fn balancing_shows(case: &GroupingCase, outcome: &GroupingOutcome) -> bool {
     case.numbers.weight > 0.0 && plain.run() != *outcome
 }
 
-fn accepted_kinds(case: &GroupingCase, outcome: &GroupingOutcome, splits: u32) -> Vec<String> {
+fn accepted_kinds(
+    case: &GroupingCase,
+    outcome: &GroupingOutcome,
+    accepted: &GroupingAccepted,
+) -> Vec<String> {
+    let splits = accepted.splits;
     if splits == 0 {
         return vec!["no split".into()];
     }
@@ -60,7 +65,8 @@ fn accepted_kinds(case: &GroupingCase, outcome: &GroupingOutcome, splits: u32) -
     if balancing_shows(case, outcome) {
         kinds.push("groups changed by balancing".into());
     }
-    kinds.extend(case.pass_kinds(splits).into_iter().map(String::from));
+    let shown = [case.pass_kinds(splits), case.unplaced_kinds(accepted)].concat();
+    kinds.extend(shown.into_iter().map(String::from));
     kinds
 }
 
@@ -92,6 +98,12 @@ impl Compared for GroupingCase {
         ("training too long", 1),
         ("more than two passes", 100),
         ("a draw that wraps", 50),
+        ("a NaN row", 50),
+        ("an infinite row", 50),
+        ("a row whose norm overflows", 50),
+        ("unplaced rows", 100),
+        ("one NaN row, several splits and more than one unplaced", 10),
+        ("more unplaced than there are rows", 10),
     ];
 
     fn proved(&self) -> Proved<GroupingOutcome> {
@@ -116,11 +128,11 @@ impl Compared for GroupingCase {
             &mut means,
             &mut work,
         );
-        // A refusal carries its number alone: the counts are blank.
-        let blank = told.groups == 0 && told.splits == 0;
+        let blank = told.groups == 0 && told.splits == 0 && told.unplaced == 0;
         let accepted = GroupingAccepted {
             groups: told.groups,
             splits: told.splits,
+            unplaced: told.unplaced,
         };
         Proved {
             outcome: GroupingOutcome::new(answer(told.number, accepted), order, ends, &means),
@@ -132,7 +144,7 @@ impl Compared for GroupingCase {
         let number = Self::number(outcome);
         let mut kinds = vec![number_kind(number)];
         if let Ok(accepted) = outcome.answer {
-            kinds.extend(accepted_kinds(self, outcome, accepted.splits));
+            kinds.extend(accepted_kinds(self, outcome, &accepted));
         }
         if number == 2 && !self.work_fits {
             let (which, shorter) = wrong_slice(self);

@@ -2,11 +2,11 @@
 
 use engine::exported::{self, KMeansNumbers, KMeansWork};
 use oracle::calls::KMeansAccepted;
-use oracle::cases::{Case, KMeansCase, KMeansOutcome, STALE_CELL, STALE_FLOAT};
+use oracle::cases::{Case, KMeansCase, KMeansOutcome, RestartsCase, STALE_CELL, STALE_FLOAT};
 use oracle::random::Random;
 
-use super::{answer, spoil, wrong_kind, Compared, Proved};
-use crate::tally::{number_kind, Need};
+use super::{answer, kinds, spoil, wrong_kind, Compared, Proved};
+use crate::tally::Need;
 
 /// The work slice full of stale values; it is too long or too short where the case says that it doesn't fit.
 fn work_of(case: &KMeansCase) -> KMeansWork {
@@ -36,6 +36,10 @@ impl Compared for KMeansCase {
         ("training too long", 1),
         ("more than two passes", 100),
         ("a draw that wraps", 50),
+        ("a NaN row", 50),
+        ("an infinite row", 50),
+        ("a row whose norm overflows", 50),
+        ("unplaced rows", 100),
     ];
 
     fn proved(&self) -> Proved<KMeansOutcome> {
@@ -59,11 +63,11 @@ impl Compared for KMeansCase {
             &mut centroids,
             &mut work,
         );
-        // A refusal carries its number alone: the figures are blank.
-        let blank = told.objective.to_bits() == 0 && told.restart == 0;
+        let blank = told.objective.to_bits() == 0 && told.restart == 0 && told.unplaced == 0;
         let accepted = KMeansAccepted {
             objective: told.objective,
             restart: told.restart,
+            unplaced: told.unplaced,
         };
         Proved {
             outcome: KMeansOutcome::new(answer(told.number, accepted), labels, &centroids),
@@ -73,13 +77,28 @@ impl Compared for KMeansCase {
 
     fn kinds(&self, outcome: &KMeansOutcome) -> Vec<String> {
         let number = Self::number(outcome);
-        let mut kinds = vec![number_kind(number)];
+        let shown = |(_, _, unplaced)| [self.pass_kinds(), self.unplaced_kinds(unplaced)].concat();
+        let mut kinds = kinds(number, outcome.answer.map_or(vec![], shown));
         if number == 2 && !self.work_fits {
             kinds.push(wrong_kind("training", is_shorter(self)));
         }
-        if number == 0 {
-            kinds.extend(self.pass_kinds().into_iter().map(String::from));
-        }
         kinds
+    }
+}
+
+impl Compared for RestartsCase {
+    const NEEDS: &'static [Need] = &[
+        ("accepted", 1_000),
+        ("unplaced rows", 1_000),
+        ("fewer unplaced than in the last restart", 20),
+        ("more unplaced than in the last restart", 20),
+    ];
+
+    fn proved(&self) -> Proved<KMeansOutcome> {
+        self.0.proved()
+    }
+
+    fn kinds(&self, outcome: &KMeansOutcome) -> Vec<String> {
+        self.0.kinds(outcome)
     }
 }

@@ -4,7 +4,7 @@
 use oracle::batch::{MAX_FILE_BYTES, TRAILER_BYTES};
 use oracle::calls::{GroupingNumbers, KMeansNumbers};
 use oracle::cases::{file_of, BatchCase, Case, ClosureBytesCase, ClosureCase, GroupingCase};
-use oracle::cases::{KMeansCase, LabelBytesCase, LabelCase};
+use oracle::cases::{KMeansCase, LabelBytesCase, LabelCase, PlaceCase};
 use oracle::random::Random;
 
 use crate::timing::{rows_around, values};
@@ -36,11 +36,17 @@ pub fn closure_bytes() -> Vec<ClosureBytesCase> {
     and(vec![ClosureBytesCase::from(&largest)])
 }
 
-pub fn label_rows() -> Vec<LabelCase> {
+fn largest_labellings() -> [LabelCase; 3] {
     let shapes = [(4_096, 64, 64), (4_095, 3, 16), (4_096, 64, 1)];
-    and(shapes
-        .map(|(rows, dim, k)| LabelCase::of(&mut random(), rows, dim, k))
-        .into())
+    shapes.map(|(rows, dim, k)| LabelCase::of(&mut random(), rows, dim, k))
+}
+
+pub fn label_rows() -> Vec<LabelCase> {
+    and(largest_labellings().into())
+}
+
+pub fn place_rows() -> Vec<PlaceCase> {
+    and(largest_labellings().map(PlaceCase::from).into())
 }
 
 /// The most rows: around 25 centres, or all alike.

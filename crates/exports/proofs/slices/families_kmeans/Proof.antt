@@ -11,18 +11,18 @@ put-kept-requires : tie.Need-put-kept-requires
 put-kept-requires c κs = search needs
 
 same-length : tie.Need-same-length
-same-length c = c .before .before .before .before .before .before .before .before .before .run-kmeans-with-config .kept .1 .1 .1 .1 .1 .1 .0
+same-length c = c .before .before .before .before .before .before .before .before .before .before .run-kmeans-with-config .kept .1 .1 .1 .1 .1 .1 .0
 
 same-length-2 : tie.Need-same-length-2
-same-length-2 c = c .before .before .before .before .before .before .before .before .before .run-kmeans-with-config .kept .1 .1 .1 .1 .1 .1 .1 .0
+same-length-2 c = c .before .before .before .before .before .before .before .before .before .before .run-kmeans-with-config .kept .1 .1 .1 .1 .1 .1 .1 .0
 
 same-length-3 : tie.Need-same-length-3
-same-length-3 c = c .before .before .before .before .before .before .before .before .before .run-kmeans-with-config .kept .1 .1 .1 .1 .1 .1 .1 .1 .0
+same-length-3 c = c .before .before .before .before .before .before .before .before .before .before .run-kmeans-with-config .kept .1 .1 .1 .1 .1 .1 .1 .1 .0
 
 returns : tie.Need-returns
 returns c =
-    let k = c .before .before .before .before .before .before .before .before .before .run-kmeans-with-config in
-    (kmeans-gave _ _ _ _ _ _ _ _ _ (k .ensures .0) (c .put-kept .ensures .0) (c .put-kept .ensures .1), k .ensures .1)
+    let k = c .before .before .before .before .before .before .before .before .before .before .run-kmeans-with-config in
+    (kmeans-gave _ _ _ _ _ _ _ _ _ _ (k .ensures .0) (c .put-kept .ensures .0) (c .put-kept .ensures .1), k .ensures .1)
 
 pub families-kmeans-spec : {M : Type 1} → statement M
 families-kmeans-spec =

@@ -14,11 +14,11 @@ enum-known-answer-2 c = search needs
 
 returns : tie.Need-returns
 unfolding codeOf figureOf
-returns c = rw (c .before .answer .given .1) (refl, (refl, refl))
+returns c = rw (c .before .answer .given .1) (refl, (refl, (refl, refl)))
 
 returns-2 : tie.Need-returns-2
 unfolding codeOf figureOf ofBits
-returns-2 c = rw (c .before .answer2 .given .1) (refl, (refl, refl))
+returns-2 c = rw (c .before .answer2 .given .1) (refl, (refl, (refl, refl)))
 
 pub put-kept-spec : {M : Type 1} → statement M
 put-kept-spec = tie.close (tie.spec enum-known-answer enum-known-answer-2 returns returns-2)

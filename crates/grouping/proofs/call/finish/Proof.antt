@@ -16,7 +16,7 @@ fill-means-requires c κs =
     let z = c .before .before .before .before .before .before .before .before .before .before in
     let p = z .pre in
     let f = p .1 .0 in
-    let t = taken (f .0) (length (z .args .order .now)) (c .before .before .before .before .found .given .0 .0) _ (z .args .order .now) (z .args .ends .now) (rw (c .before .before .before .before .found .given .1) at (f .1)) in
+    let t = taken (f .0) (length (z .args .order .now)) (c .before .before .before .before .found .given .0 .0) _ _ (z .args .order .now) (z .args .ends .now) (rw (c .before .before .before .before .found .given .1) at (f .1)) in
     (p .0, (cut t, (rw (p .0 .1 .1 .0) (t .fits), p .1 .1)))
 
 enum-known-found-2 : tie.Need-enum-known-found-2
@@ -41,7 +41,7 @@ returns : tie.Need-returns
 returns c =
     λ answer h.
     let z = c .before .before .before .before .before .before .before .before .before .before .before .before .before in
-    gives-listed answer (z .args .dim) (z .args .values .now) (z .args .order .now) (z .args .ends .now) (length (z .args .means .now)) (c .before .before .before .before .before .before .before .found .given .0 .0) (c .before .before .before .before .before .before .before .found .given .0 .1 .0) (c .before .before .fill-means .last .1 .1 .1 .1 .1 .0) (z .pre .0 .1 .1 .0) (rw (c .before .before .before .before .before .before .before .found .given .1) at h) (c .before .before .fill-means .ensures)
+    gives-listed answer (z .args .dim) (z .args .values .now) (z .args .order .now) (z .args .ends .now) (length (z .args .means .now)) (c .before .before .before .before .before .before .before .found .given .0 .0) (c .before .before .before .before .before .before .before .found .given .0 .1 .0) (c .before .before .before .before .before .before .before .found .given .0 .1 .1 .0) (c .before .before .fill-means .last .1 .1 .1 .1 .1 .0) (z .pre .0 .1 .1 .0) (rw (c .before .before .before .before .before .before .before .found .given .1) at h) (c .before .before .fill-means .ensures)
 
 same-length-4 : tie.Need-same-length-4
 same-length-4 c = search needs

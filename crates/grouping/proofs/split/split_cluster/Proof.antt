@@ -1,4 +1,4 @@
-use Prim.Native.Nat.{ℕ, _≤_, _*_}
+use Prim.Native.Nat.{ℕ, _≤_, _<_, _*_}
 use mathlib.Core.Path.{_≡_, refl, sym, _∙_}
 use mathlib.Core.List.{List, _++_}
 use native.Mathlib.Nat.{mul-le-mul, mul-le-mul-right, div-eq-of-eq-mul-left as as-many}
@@ -105,8 +105,12 @@ module _ (r : tie.After-run-kmeans-flat) where
   ran : Ran (z .args .draws .now) forGrouping (parts z) (z .args .dim) (rowsAt (table z) (z .args .part .now)) (z .args .cursor) (r .run-kmeans-flat .result) labels-after (rowsFrom (z .args .dim) (parts z) centroids-after)
   ran = rw (r .before .before .before .before .before .for-grouping .ensures, labels-long (r .before .before .before .before .before .before .before .before .before .before .before .before), rows-hold (rows-of r) .is, rows-of r .gather-rows .ensures) at (r .run-kmeans-flat .ensures)
 
+  -- the cursor's pass is a number of 32 bits
+  bits : z .args .cursor .pass < 4294967296
+  bits = z .good .1 .1 .1 .1 .1 .0 .1 .1 .1 .0 .1
+
   found : Labelled (z .args .rows) (parts z) (z .args .part .now) labels-after
-  found = labelled (z .args .dim) _ (table z) (z .args .part .now) (z .pre .1 .1 .1 .1) (z .good .1 .1 .1 .1 .1 .0 .1 .1 .1 .0 .1) (z .pre .0 .limits .1 .0 .0) (z .pre .1 .0) (z .pre .1 .1 .1 .0) ran
+  found = labelled (z .args .dim) _ (table z) (z .args .part .now) (z .pre .1 .1 .1 .1) bits (z .pre .0 .limits .1 .0 .0) (z .pre .1 .0) (z .pre .1 .1 .1 .0) ran
 
 -- the copy of the group
 copied-hold : (c : tie.After-copy-cells) → let z = start-of (rows-of (c .before .before .before .before .before .before .before)) in Front (size z) (c .copy-cells .last .0 ++ drop (size z) (c .before .before .before .before .before .before .before .before .before .before .before .before .before .before .before .before .before .before .cell-room2 .result)) (z .args .part .now)
@@ -250,7 +254,7 @@ returns c =
     let r = run-of g in
     let s = z r in
     let some = s .pre .0 .limits .0 .0 in
-    split-done (s .args .dim) (table s) (s .args .weight) (ran r)
+    split-done (s .args .dim) (table s) (s .args .weight) (s .pre .1 .1 .1 .1) (bits r) (size-few s) (ran r)
     (rw (as-many some (s .pre .0 .value-cells), as-many some (centroids-hold r .long), centroids-hold r .is, g .gather .kept .0, g .gather .kept .1 .1 .1 .0) at (c .before .before .before .before .before .balance-if .ensures (made g) (laid g)))
 
 pub split-cluster-spec : {M : Type 1} → statement M

@@ -1,4 +1,4 @@
-use Rattle.grouping.proofs.States.{Kept, room-kept, Clustering, clustering-start, clustering-list, clustering-six, clustering-seven, clustering-split, clustering-end, end-room, split-room, one-more, not-spent, falls}
+use Rattle.grouping.proofs.States.{Kept, room-kept, Clustering, clustering-start, clustering-list, clustering-six, clustering-seven, clustering-split, clustering-end, end-room, split-room, one-more, count-fits, not-spent, falls}
 use Rattle.grouping.specs.Groups.{ruleOf}
 use Rattle.grouping.specs.PartsInside.{total}
 use Rattle.grouping.specs.Inside.{Split, pushes}
@@ -15,29 +15,29 @@ use Rattle.grouping.proofs.waiting.group_rows.Statement.{statement}
 use Rattle.grouping.proofs.waiting.group_rows.Tie as tie
 
 abbrev Inv-loop : tie.InvT-loop
-Inv-loop values dim config draws order₀ ends₀ sizes₀ waiting₀ gathered₀ training₀ rows limit budget top₀ groups₀ splits₀ start₀ cursor₀ order ends sizes waiting gathered training top groups splits start cursor =
+Inv-loop values dim config draws order₀ ends₀ sizes₀ waiting₀ gathered₀ training₀ rows top₀ groups₀ splits₀ unplaced₀ start₀ cursor₀ order ends sizes waiting gathered training top groups splits unplaced start cursor =
     Kept order₀ order ends₀ ends sizes₀ sizes waiting₀ waiting gathered₀ gathered training₀ training
-    × Clustering (ruleOf draws dim (rowsFrom dim (length order₀) values) (length sizes₀) (config .weight)) (config .limit) (config .budget) (length order₀) order waiting ends top groups splits start cursor
+    × Clustering (ruleOf draws dim (rowsFrom dim (length order₀) values) (length sizes₀) (config .weight)) (config .limit) (config .budget) (length order₀) order waiting ends top groups splits unplaced start cursor
 
 abbrev μ-loop : tie.MeasureT-loop
-μ-loop values dim config draws order₀ ends₀ sizes₀ waiting₀ gathered₀ training₀ rows limit budget top₀ groups₀ splits₀ start₀ cursor₀ order ends sizes waiting gathered training top groups splits start cursor =
+μ-loop values dim config draws order₀ ends₀ sizes₀ waiting₀ gathered₀ training₀ rows top₀ groups₀ splits₀ unplaced₀ start₀ cursor₀ order ends sizes waiting gathered training top groups splits unplaced start cursor =
     (config .budget - splits) * 65536 + top
 
 -- the places before: the call's start, the loop, the group taken, the decision to split it, the split
 abbrev start-of : tie.At-loop Inv-loop μ-loop → tie.Start Inv-loop μ-loop
-start-of k = k .before .before .before .before .before .before .before .before .before .before .before .before
+start-of k = k .before .before .before .before .before .before .before .before .before .before .before
 
 abbrev loop-of : tie.After-wide Inv-loop μ-loop → tie.At-loop Inv-loop μ-loop
 loop-of c = c .before .before .before
 
 abbrev taken-of : tie.Else3 Inv-loop μ-loop → tie.After-wide Inv-loop μ-loop
-taken-of c = c .before .before .before
+taken-of c = c .before .before .before .before .before
 
 abbrev chosen-of : tie.After-split-cluster Inv-loop μ-loop → tie.Else3 Inv-loop μ-loop
 chosen-of c = c .before .before .before .before .before
 
 abbrev split-of : tie.After-slice-known12 Inv-loop μ-loop → tie.After-split-cluster Inv-loop μ-loop
-split-of c = c .before .before .before .before .before .before .before .before .before .before .before .before .before
+split-of c = c .before .before .before .before .before .before .before .before .before .before .before .before .before .before
 
 -- the slices are as long as at the call's start
 same : (k : tie.At-loop Inv-loop μ-loop) → let a = start-of k .args in
@@ -84,14 +84,11 @@ module _ (c : tie.After-split-cluster Inv-loop μ-loop) where
   room-left : (k .loop .top - 1 + length (pushes (w .wide .result) sizes-after) ≤ length (s .args .order .now)) × (total sizes-after ≤ w .wide .result)
   room-left = split-room (k .loop .inv .1) (w .before .before .loop-test .taken) (same k .order-kept) (w .wide .result) (w .wide .ensures .0) divided (c .split-cluster .kept .1 .1 .1 .1 .1 .1 .0)
 
-cast-limit : tie.Need-cast-limit Inv-loop μ-loop
-cast-limit c = search needs
-
 cast-waiting : tie.Need-cast-waiting Inv-loop μ-loop
 cast-waiting c = search needs
 
 slice-write-waiting : tie.Need-slice-write-waiting Inv-loop μ-loop
-slice-write-waiting c = omega (arith, c .before .before .before .before .before .before .before .before .before .pre .1 .0 .1 .1)
+slice-write-waiting c = omega (arith, c .before .before .before .before .before .before .before .before .pre .1 .0 .1 .1)
 
 least-requires : tie.Need-least-requires Inv-loop μ-loop
 least-requires c κs = search needs
@@ -101,7 +98,7 @@ new-requires c κs = search needs
 
 loop-holds : tie.Need-loop-holds Inv-loop μ-loop
 loop-holds c =
-    let s = c .before .before .before .before .before .before .before .before .before .before .before in
+    let s = c .before .before .before .before .before .before .before .before .before .before in
     let a = s .args in (
       record { order-kept = refl; ends-kept = refl; sizes-kept = refl; waiting-kept = refl; gathered-kept = refl; training-kept = refl },
       clustering-start (a .draws .now) (a .dim) (a .values .now) (length (a .sizes .now)) (a .config .weight) (a .config .limit) (a .config .budget) (a .order .now) (s .pre .1 .1 .0)
@@ -127,6 +124,9 @@ sub-size c =
     let r = inside c in
     omega (arith, r)
 
+cast-if1 : tie.Need-cast-if1 Inv-loop μ-loop
+cast-if1 c = search needs
+
 cast-ends : tie.Need-cast-ends Inv-loop μ-loop
 cast-ends c = search needs
 
@@ -138,13 +138,13 @@ mul-ends c = search needs
 
 slice-write-ends : tie.Need-slice-write-ends Inv-loop μ-loop
 slice-write-ends c =
-    let k = loop-of (c .before) in
-    omega (arith, k .loop .inv .1 .room, same k .ends-kept, start-of k .pre .1 .0 .0, c .before .before .before .loop-test .taken)
+    let k = loop-of (c .before .before) in
+    omega (arith, k .loop .inv .1 .room, same k .ends-kept, start-of k .pre .1 .0 .0, c .before .before .before .before .loop-test .taken)
 
 add-groups : tie.Need-add-groups Inv-loop μ-loop
 add-groups c =
-    let k = loop-of (c .before) in
-    omega (arith, k .loop .inv .1 .room, start-of k .pre .0 .limits .1 .1, c .before .before .before .loop-test .taken)
+    let k = loop-of (c .before .before) in
+    omega (arith, k .loop .inv .1 .room, start-of k .pre .0 .limits .1 .1, c .before .before .before .before .loop-test .taken)
 
 sub-top : tie.Need-sub-top Inv-loop μ-loop
 sub-top c = search needs
@@ -154,9 +154,9 @@ loop-less c = search needs
 
 loop-again : tie.Need-loop-again Inv-loop μ-loop
 loop-again c =
-    let k = loop-of (c .before) in
+    let k = loop-of (c .before .before) in
     let i = k .loop .inv in
-    let w = c .before .wide in (
+    let w = c .before .before .wide in (
       record {
         order-kept = i .0 .order-kept;
         ends-kept = length-set (k .loop .ends) (k .loop .groups) (w .result) ∙ i .0 .ends-kept;
@@ -165,57 +165,57 @@ loop-again c =
         gathered-kept = i .0 .gathered-kept;
         training-kept = i .0 .training-kept;
       },
-      clustering-list (i .1) (c .before .before .before .loop-test .taken) (i .0 .order-kept) (w .result) (w .ensures .0) (omega (arith, c .if1 .taken)),
+      clustering-list (i .1) (c .before .before .before .before .loop-test .taken) (i .0 .order-kept) (w .result) (w .ensures .0) (omega (arith, c .if1 .taken)),
     )
 
 same-length : tie.Need-same-length Inv-loop μ-loop
-same-length c = same (loop-of (c .before .before)) .order-kept
+same-length c = same (loop-of (c .before .before .before)) .order-kept
 
 same-length-2 : tie.Need-same-length-2 Inv-loop μ-loop
-same-length-2 c = same (loop-of (c .before .before)) .ends-kept
+same-length-2 c = same (loop-of (c .before .before .before)) .ends-kept
 
 same-length-3 : tie.Need-same-length-3 Inv-loop μ-loop
-same-length-3 c = same (loop-of (c .before .before)) .sizes-kept
+same-length-3 c = same (loop-of (c .before .before .before)) .sizes-kept
 
 same-length-4 : tie.Need-same-length-4 Inv-loop μ-loop
-same-length-4 c = same (loop-of (c .before .before)) .waiting-kept
+same-length-4 c = same (loop-of (c .before .before .before)) .waiting-kept
 
 same-length-5 : tie.Need-same-length-5 Inv-loop μ-loop
-same-length-5 c = same (loop-of (c .before .before)) .gathered-kept
+same-length-5 c = same (loop-of (c .before .before .before)) .gathered-kept
 
 same-length-6 : tie.Need-same-length-6 Inv-loop μ-loop
-same-length-6 c = same (loop-of (c .before .before)) .training-kept
+same-length-6 c = same (loop-of (c .before .before .before)) .training-kept
 
 returns : tie.Need-returns Inv-loop μ-loop
 returns c =
-    let k = loop-of (c .before .before) in
-    let w = c .before .before .wide in
-    clustering-six (k .loop .inv .1) (c .before .before .before .before .loop-test .taken) (same k .order-kept) (w .result) (w .ensures .0) (omega (arith, c .before .if1 .left)) (omega (arith, c .if2 .taken, same k .sizes-kept))
+    let k = loop-of (c .before .before .before) in
+    let w = c .before .before .before .wide in
+    clustering-six (k .loop .inv .1) (c .before .before .before .before .before .loop-test .taken) (same k .order-kept) (w .result) (w .ensures .0) (omega (arith, c .before .if1 .left)) (omega (arith, c .if2 .taken, same k .sizes-kept))
 
 same-length-7 : tie.Need-same-length-7 Inv-loop μ-loop
-same-length-7 c = same (loop-of (c .before .before .before)) .order-kept
+same-length-7 c = same (loop-of (c .before .before .before .before .before)) .order-kept
 
 same-length-8 : tie.Need-same-length-8 Inv-loop μ-loop
-same-length-8 c = same (loop-of (c .before .before .before)) .ends-kept
+same-length-8 c = same (loop-of (c .before .before .before .before .before)) .ends-kept
 
 same-length-9 : tie.Need-same-length-9 Inv-loop μ-loop
-same-length-9 c = same (loop-of (c .before .before .before)) .sizes-kept
+same-length-9 c = same (loop-of (c .before .before .before .before .before)) .sizes-kept
 
 same-length-10 : tie.Need-same-length-10 Inv-loop μ-loop
-same-length-10 c = same (loop-of (c .before .before .before)) .waiting-kept
+same-length-10 c = same (loop-of (c .before .before .before .before .before)) .waiting-kept
 
 same-length-11 : tie.Need-same-length-11 Inv-loop μ-loop
-same-length-11 c = same (loop-of (c .before .before .before)) .gathered-kept
+same-length-11 c = same (loop-of (c .before .before .before .before .before)) .gathered-kept
 
 same-length-12 : tie.Need-same-length-12 Inv-loop μ-loop
-same-length-12 c = same (loop-of (c .before .before .before)) .training-kept
+same-length-12 c = same (loop-of (c .before .before .before .before .before)) .training-kept
 
 returns-2 : tie.Need-returns-2 Inv-loop μ-loop
 returns-2 c =
-    let k = loop-of (c .before .before .before) in
-    let w = c .before .before .before .wide in
-    clustering-seven (k .loop .inv .1) (c .before .before .before .before .before .loop-test .taken) (same k .order-kept) (w .result) (w .ensures .0)
-    (omega (arith, c .before .before .if1 .left)) (omega (arith, c .before .if2 .left, same k .sizes-kept)) (c .if3 .taken)
+    let k = loop-of (c .before .before .before .before .before) in
+    let w = c .before .before .before .before .before .wide in
+    clustering-seven (k .loop .inv .1) (c .before .before .before .before .before .before .before .loop-test .taken) (same k .order-kept) (w .result) (w .ensures .0)
+    (omega (arith, c .before .before .before .if1 .left)) (omega (arith, c .before .before .if2 .left, same k .sizes-kept)) (c .if3 .taken)
 
 mul-split-cluster : tie.Need-mul-split-cluster Inv-loop μ-loop
 mul-split-cluster c = search needs
@@ -243,7 +243,7 @@ split-cluster-requires c κs =
     let m = mid-len (k .loop .start) (w .wide .result) (k .loop .order) (omega (arith, r, same k .order-kept)) in (
       room-kept _ _ _ _ (same k .sizes-kept) refl (same k .gathered-kept) (same k .training-kept) (s .pre .0),
       (
-        rw m (omega (arith, e .before .if2 .left)),
+        rw m (omega (arith, e .before .before .if2 .left)),
         (
           rw m (omega (arith, r)),
           (
@@ -256,12 +256,12 @@ split-cluster-requires c κs =
 
 sub-push : tie.Need-sub-push Inv-loop μ-loop
 sub-push c =
-    let w = taken-of (chosen-of (c .before .before .before .before .before .before .before .before .before .before)) in
+    let w = taken-of (chosen-of (c .before .before .before .before .before .before .before .before .before .before .before)) in
     w .before .before .loop-test .taken
 
 push-requires : tie.Need-push-requires Inv-loop μ-loop
 push-requires c κs =
-    let z = c .before .before .before .before .before .before .before .before .before .before in
+    let z = c .before .before .before .before .before .before .before .before .before .before .before in
     let w = taken-of (chosen-of z) in
     let k = loop-of w in
     let r = room-left z in
@@ -273,57 +273,69 @@ add-splits c =
     let s = start-of k in
     one-more (k .loop .splits) (s .args .config .budget) (k .loop .inv .1 .spent) (s .pre .1 .1 .1 .1 .1)
 
+add-unplaced : tie.Need-add-unplaced Inv-loop μ-loop
+add-unplaced c =
+    let z = split-of (c .before) in
+    let k = loop-of (taken-of (chosen-of z)) in
+    let s = start-of k in
+    count-fits (k .loop .unplaced) _ (k .loop .splits) (s .args .config .budget) (k .loop .inv .1 .count) (divided z .few) (k .loop .inv .1 .spent) (s .pre .1 .1 .1 .1 .1)
+
 loop-less-2 : tie.Need-loop-less-2 Inv-loop μ-loop
 loop-less-2 c =
-    let e = chosen-of (split-of c) in
+    let z = split-of (c .before) in
+    let e = chosen-of z in
     let k = loop-of (taken-of e) in
     let s = start-of k in
-    let P = c .before .before .push in
+    let P = c .before .before .before .push in
     let left = not-spent (k .loop .splits) (s .args .config .budget) (k .loop .inv .1 .spent) (e .if3 .left) in
-    falls (s .args .config .budget) (k .loop .splits) (k .loop .top) (P .result) _ (length (s .args .order .now)) left (P .ensures .0) (room-left (split-of c) .0) (s .pre .0 .limits .1 .1)
+    falls (s .args .config .budget) (k .loop .splits) (k .loop .top) (P .result) _ (length (s .args .order .now)) left (P .ensures .0) (room-left z .0) (s .pre .0 .limits .1 .1)
 
 loop-again-2 : tie.Need-loop-again-2 Inv-loop μ-loop
 loop-again-2 c =
-    let e = chosen-of (split-of c) in
+    let z = split-of (c .before) in
+    let e = chosen-of z in
     let w = taken-of e in
     let k = loop-of w in
     let i = k .loop .inv in
     let s = start-of k in
-    let S = split-of c .split-cluster in
-    let P = c .before .before .push in
+    let S = z .split-cluster in
+    let P = c .before .before .before .push in
     let left = not-spent (k .loop .splits) (s .args .config .budget) (i .1 .spent) (e .if3 .left) in (
       record {
-        order-kept = same-len-mid {X = ℕ} (k .loop .start) (w .wide .result - k .loop .start) (k .loop .order) (part-after (split-of c)) (S .kept .1 .1 .1 .1 .1 .1 .0) ∙ i .0 .order-kept;
+        order-kept = same-len-mid {X = ℕ} (k .loop .start) (w .wide .result - k .loop .start) (k .loop .order) (part-after z) (S .kept .1 .1 .1 .1 .1 .1 .0) ∙ i .0 .order-kept;
         ends-kept = i .0 .ends-kept;
         sizes-kept = S .kept .1 .1 .1 .1 .1 .1 .1 .0 ∙ i .0 .sizes-kept;
         waiting-kept = P .kept .0 ∙ i .0 .waiting-kept;
         gathered-kept = S .kept .1 .1 .1 .1 .1 .1 .1 .1 .0 ∙ i .0 .gathered-kept;
         training-kept = S .kept .1 .1 .1 .1 .1 .1 .1 .1 .1 .0 ∙ i .0 .training-kept;
       },
-      clustering-split (i .1) (w .before .before .loop-test .taken) (i .0 .order-kept) (w .wide .result) (w .wide .ensures .0) (divided (split-of c)) (S .kept .1 .1 .1 .1 .1 .1 .0)
-          (s .pre .0 .limits .1 .0 .0) (s .pre .0 .limits .1 .1) (omega (arith, e .before .before .if1 .left)) (omega (arith, e .before .if2 .left, i .0 .sizes-kept)) left (P .last .0) (P .result) (P .ensures .0) (P .ensures .1),
+      clustering-split (i .1) (w .before .before .loop-test .taken) (i .0 .order-kept) (w .wide .result) (w .wide .ensures .0) (divided z) (S .kept .1 .1 .1 .1 .1 .1 .0)
+          (s .pre .0 .limits .1 .0 .0) (s .pre .0 .limits .1 .1) (omega (arith, e .before .before .before .if1 .left)) (omega (arith, e .before .before .if2 .left, i .0 .sizes-kept)) left (P .last .0) (P .result) (P .ensures .0) (P .ensures .1),
     )
 
+tell-requires : tie.Need-tell-requires Inv-loop μ-loop
+tell-requires c κs = search needs
+
 same-length-13 : tie.Need-same-length-13 Inv-loop μ-loop
-same-length-13 c = same (c .before) .order-kept
+same-length-13 c = same (c .before .before) .order-kept
 
 same-length-14 : tie.Need-same-length-14 Inv-loop μ-loop
-same-length-14 c = same (c .before) .ends-kept
+same-length-14 c = same (c .before .before) .ends-kept
 
 same-length-15 : tie.Need-same-length-15 Inv-loop μ-loop
-same-length-15 c = same (c .before) .sizes-kept
+same-length-15 c = same (c .before .before) .sizes-kept
 
 same-length-16 : tie.Need-same-length-16 Inv-loop μ-loop
-same-length-16 c = same (c .before) .waiting-kept
+same-length-16 c = same (c .before .before) .waiting-kept
 
 same-length-17 : tie.Need-same-length-17 Inv-loop μ-loop
-same-length-17 c = same (c .before) .gathered-kept
+same-length-17 c = same (c .before .before) .gathered-kept
 
 same-length-18 : tie.Need-same-length-18 Inv-loop μ-loop
-same-length-18 c = same (c .before) .training-kept
+same-length-18 c = same (c .before .before) .training-kept
 
 returns-3 : tie.Need-returns-3 Inv-loop μ-loop
-returns-3 c = clustering-end (c .before .loop .inv .1) (c .loop-test .left)
+returns-3 c = rw (c .tell .ensures) (clustering-end (c .before .before .loop .inv .1) (c .before .loop-test .left))
 
 pub group-rows-spec : {M : Type 1} → statement M
 group-rows-spec =
@@ -331,7 +343,6 @@ group-rows-spec =
     (tie.spec
     Inv-loop
     μ-loop
-    cast-limit
     cast-waiting
     slice-write-waiting
     least-requires
@@ -342,6 +353,7 @@ group-rows-spec =
     slice-read-wide
     wide-requires
     sub-size
+    cast-if1
     cast-ends
     cast-ends-2
     mul-ends
@@ -372,8 +384,10 @@ group-rows-spec =
     sub-push
     push-requires
     add-splits
+    add-unplaced
     loop-less-2
     loop-again-2
+    tell-requires
     same-length-13
     same-length-14
     same-length-15

@@ -27,7 +27,7 @@ wide-requires c κs = search needs
 returns : tie.Need-returns
 returns c =
     let z = c .before .before .before .before .before .before .before .before .before in
-    let l = label-one _ (z .args .row .now) _ (c .before .before .before .assign-rows .ensures .0) in
+    let l = label-one _ (z .args .row .now) _ (c .before .before .before .assign-rows .ensures .labelled) in
     let e = c .wide .ensures .0 ∙ l in
     (e, rw (sym e) at (label-below-one (length (z .args .row .now)) (z .args .k) (z .args .centroids .now) (z .args .row .now) (z .pre .0 .1 .0 .0)))
 

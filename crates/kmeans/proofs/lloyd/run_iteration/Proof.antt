@@ -2,7 +2,8 @@ use Rattle.kmeans.proofs.Rooms.{cells-lent}
 use Rattle.kmeans.proofs.Turns.{PoolFor, iteration-stops, iteration-goes}
 use Rattle.kmeans.proofs.Summing.{Summed}
 use Rattle.kmeans.specs.Inside.{trainingOf, centroidsOf}
-use Rattle.labels.proofs.Assigns.{Assigned}
+use Rattle.labels.specs.Inside.{Assigned}
+use Rattle.labels.specs.Label.{nearests}
 use Rattle.labels.proofs.Promises.{label-below}
 use Rattle.sums.proofs.Fronts.{Front, front}
 use Rattle.sums.proofs.Refusing.{both}
@@ -31,7 +32,7 @@ adding c = c .before .before .before .before .before .before .before .before .be
 -- ---- what each step leaves, with the rows counted by their norms and the clusters by the plan
 
 labelled : (c : tie.After-assign-rows) → let a = (start c) .args in
-    Assigned (centroidsOf (a .plan) (a .centroids .now)) (trainingOf (a .plan) (a .training .now) (a .norms .now)) (a .labels .now)
+    Assigned (nearests (centroidsOf (a .plan) (a .centroids .now)) (trainingOf (a .plan) (a .training .now) (a .norms .now))) (a .labels .now)
     (c .assign-rows .last .1 .1 .1 .1 .1 .0) (c .assign-rows .last .1 .1 .1 .1 .1 .1 .0) (c .assign-rows .result)
 labelled c = rw ((start c) .pre .1 .0 .0) at (c .assign-rows .ensures)
 
@@ -97,7 +98,7 @@ accumulate-requires c κs =
     let b = label-below (centroidsOf (a .plan) (a .centroids .now)) (trainingOf (a .plan) (a .training .now) (a .norms .now)) (rw rows-length (t .planned .some)) in
     rw (cells-lent (t .planned)) (
       (t .training-cells ∙ ap (λ (m : ℕ). m * a .plan .dim) (sym (labels-sized w)), z .pre .1 .0 .1 .1 .0),
-      (rw (labelled w .0) (rw (rows-length (a .plan .dim) (a .plan .k) (a .centroids .now)) at b), omega (arith, labels-sized w, t .few-rows)),
+      (rw (labelled w .labelled) (rw (rows-length (a .plan .dim) (a .plan .k) (a .centroids .now)) at b), omega (arith, labels-sized w, t .few-rows)),
     )
 
 array-share-prefix-counts : tie.Need-array-share-prefix-counts

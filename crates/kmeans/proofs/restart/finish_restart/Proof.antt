@@ -1,4 +1,4 @@
-use Rattle.labels.proofs.Promises.{label-below}
+use Rattle.labels.proofs.Promises.{label-below, count-most}
 use Rattle.sums.proofs.Fronts.{Front, front, lent-front, lent-fits}
 use Rattle.sums.proofs.Rows.{rows-length}
 use Rattle.sums.specs.Rows.{rowsFrom}
@@ -6,6 +6,7 @@ use lib.ListN.{length, take, drop}
 use mathlib.Core.List.{_++_}
 use mathlib.Core.Path.{_≡_, refl, sym, ap, _∙_}
 use Prim.Native.Nat.{ℕ, _*_}
+use native.Mathlib.Omega.{arith}
 use borrow.Author.Needs.{needs}
 use Rattle.kmeans.proofs.restart.finish_restart.Statement.{statement}
 use Rattle.kmeans.proofs.restart.finish_restart.Tie as tie
@@ -61,15 +62,28 @@ compute-objective-requires c κs =
     let a = z .args in
     let w = c .before .before .before .before .assign-rows in
     let b = label-below (rowsFrom (a .plan .dim) (a .plan .k) (a .centroids .now)) (rowsFrom (a .plan .dim) (length (a .labels .now)) (a .values .now)) (rw rows-length (z .pre .0 .some)) in
-    (z .pre .1 .0 ∙ ap (λ (n : ℕ). n * a .plan .dim) (sym (w .kept .1 .1 .1 .1 .1 .0)), (z .pre .1 .1 .1, rw (w .ensures .0) (rw (rows-length (a .plan .dim) (a .plan .k) (a .centroids .now)) at b)))
+    (z .pre .1 .0 ∙ ap (λ (n : ℕ). n * a .plan .dim) (sym (w .kept .1 .1 .1 .1 .1 .0)), (z .pre .1 .1 .1, rw (w .ensures .labelled) (rw (rows-length (a .plan .dim) (a .plan .k) (a .centroids .now)) at b)))
+
+cast-t22 : tie.Need-cast-t22
+cast-t22 c =
+    let z = c .before .before .before .before .before .before .before .before .before .before .before .before .before .before .before .before .before .before in
+    let a = z .args in
+    let rows = rowsFrom (a .plan .dim) (length (a .labels .now)) (a .values .now) in
+    omega (
+      arith,
+      c .before .before .before .before .before .before .assign-rows .ensures .counted,
+      count-most (rowsFrom (a .plan .dim) (a .plan .k) (a .centroids .now)) rows,
+      rows-length (a .plan .dim) (length (a .labels .now)) (a .values .now),
+      z .pre .1 .1 .0,
+    )
 
 same-length : tie.Need-same-length
-same-length c = c .before .before .before .before .before .assign-rows .kept .1 .1 .1 .1 .1 .0
+same-length c = c .before .before .before .before .before .before .assign-rows .kept .1 .1 .1 .1 .1 .0
 
 returns : tie.Need-returns
 returns c =
-    let w = c .before .before .before .before .before .assign-rows in
-    (w .ensures .0, c .compute-objective .ensures ∙ rw (w .kept .1 .1 .1 .1 .1 .0, w .ensures .0))
+    let w = c .before .before .before .before .before .before .assign-rows in
+    (w .ensures .labelled, (c .before .compute-objective .ensures ∙ rw (w .kept .1 .1 .1 .1 .1 .0, w .ensures .labelled), w .ensures .counted))
 
 pub finish-restart-spec : {M : Type 1} → statement M
 finish-restart-spec =
@@ -86,5 +100,6 @@ finish-restart-spec =
     slice-aggregate-assign-rows-2
     assign-rows-requires
     compute-objective-requires
+    cast-t22
     same-length
     returns)

@@ -74,22 +74,22 @@ finish-restart-requires c κs =
     rw (labels-lent c) (s .trainable .planned, (s .value-cells, (s .few-labels, trial-held (c .before .before .before) .long)))
 
 array-share-prefix-trial-labels : tie.Need-array-share-prefix-trial-labels
-array-share-prefix-trial-labels c = labels-held (c .before .before .before .before) .fits
+array-share-prefix-trial-labels c = labels-held (c .before .before .before .before .before) .fits
 
 slice-aggregate-copy-cells : tie.Need-slice-aggregate-copy-cells
-slice-aggregate-copy-cells c = sym (labels-held (c .before .before .before .before .before) .long)
+slice-aggregate-copy-cells c = sym (labels-held (c .before .before .before .before .before .before) .long)
 
 copy-cells-requires : tie.Need-copy-cells-requires
-copy-cells-requires c κs = sym (labels-held (c .before .before .before .before .before) .long)
+copy-cells-requires c κs = sym (labels-held (c .before .before .before .before .before .before) .long)
 
 array-share-prefix-trial-2 : tie.Need-array-share-prefix-trial-2
-array-share-prefix-trial-2 c = trial-held (c .before .before .before .before .before .before .before .before .before .before .before .before .before) .fits
+array-share-prefix-trial-2 c = trial-held (c .before .before .before .before .before .before .before .before .before .before .before .before .before .before) .fits
 
 slice-aggregate-copy : tie.Need-slice-aggregate-copy
-slice-aggregate-copy c = sym (trial-held (c .before .before .before .before .before .before .before .before .before .before .before .before .before .before) .long)
+slice-aggregate-copy c = sym (trial-held (c .before .before .before .before .before .before .before .before .before .before .before .before .before .before .before) .long)
 
 copy-requires : tie.Need-copy-requires
-copy-requires c κs = c .before .before .before .before .before .before .before .before .before .before .before .before .before .before .before .before .before .before .before .before .before .before .before .before .before .before .pre .0 .trainable .centroid-cells ∙ sym (trial-held (c .before .before .before .before .before .before .before .before .before .before .before .before .before .before) .long)
+copy-requires c κs = c .before .before .before .before .before .before .before .before .before .before .before .before .before .before .before .before .before .before .before .before .before .before .before .before .before .before .before .pre .0 .trainable .centroid-cells ∙ sym (trial-held (c .before .before .before .before .before .before .before .before .before .before .before .before .before .before .before) .long)
 
 same-length : tie.Need-same-length
 same-length c = c .before .before .before .before .before .before .before .copy-cells .kept .0
@@ -99,11 +99,11 @@ same-length-2 c = c .before .before .copy .kept .0
 
 returns : tie.Need-returns
 returns c =
-    rw (c .before .before .before .before .before .before .before .copy-cells .ensures ∙ labels-held (c .before .before .before .before .before .before .before .before .before .before .before .before .before) .is, c .before .before .copy .ensures ∙ trial-held (c .before .before .before .before .before .before .before .before .before .before .before .before .before .before .before .before .before) .is)
-    (tried-better _ _ _ _ _ (c .before .before .before .before .before .before .before .before .before .before .before .before .before .before .before .before .before .before .before .before .before .before .before .before .before .before .before .before .before .args .best) _ _ _ _ _ _ (c .before .before .before .before .before .before .before .before .before .before .before .before .before .before .before .before .before .run-restart .ensures) (finished (c .before .before .before .before .before .before .before .before .before .before .before .before .before)) (c .before .before .before .before .before .before .before .before .before .before .if1 .taken))
+    rw (c .before .before .before .before .before .before .before .copy-cells .ensures ∙ labels-held (c .before .before .before .before .before .before .before .before .before .before .before .before .before .before) .is, c .before .before .copy .ensures ∙ trial-held (c .before .before .before .before .before .before .before .before .before .before .before .before .before .before .before .before .before .before) .is)
+    (tried-better _ _ _ _ _ (c .before .before .before .before .before .before .before .before .before .before .before .before .before .before .before .before .before .before .before .before .before .before .before .before .before .before .before .before .before .before .args .best) _ _ _ _ _ _ (c .before .before .before .before .before .before .before .before .before .before .before .before .before .before .before .before .before .before .run-restart .ensures) (finished (c .before .before .before .before .before .before .before .before .before .before .before .before .before .before)) (c .before .before .before .before .before .before .before .before .before .before .if1 .taken))
 
 returns-2 : tie.Need-returns-2
-returns-2 c = tried-kept _ _ _ _ _ (c .before .before .before .before .before .before .before .before .before .before .before .before .before .before .before .before .before .before .before .args .best) _ _ _ _ _ _ (c .before .before .before .before .before .before .before .run-restart .ensures) (finished (c .before .before .before)) (c .if1 .left)
+returns-2 c = tried-kept _ _ _ _ _ (c .before .before .before .before .before .before .before .before .before .before .before .before .before .before .before .before .before .before .before .before .args .best) _ _ _ _ _ _ (c .before .before .before .before .before .before .before .before .run-restart .ensures) (finished (c .before .before .before .before)) (c .if1 .left)
 
 pub try-restart-spec : {M : Type 1} → statement M
 try-restart-spec =

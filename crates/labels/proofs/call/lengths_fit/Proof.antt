@@ -25,8 +25,14 @@ same-requires-3 c κs = search needs
 both-requires-2 : tie.Need-both-requires-2
 both-requires-2 c κs = search needs
 
+same-requires-4 : tie.Need-same-requires-4
+same-requires-4 c κs = search needs
+
+both-requires-3 : tie.Need-both-requires-3
+both-requires-3 c κs = search needs
+
 returns : tie.Need-returns
-returns c = rw (c .both2 .ensures, c .before .before .both .ensures, c .before .before .before .before .same .ensures, c .before .before .before .same2 .ensures, c .before .same3 .ensures)
+returns c = rw (c .both3 .ensures, c .before .same4 .ensures, c .before .before .both2 .ensures, c .before .before .before .same3 .ensures, c .before .before .before .before .both .ensures, c .before .before .before .before .before .same2 .ensures, c .before .before .before .before .before .before .same .ensures)
 
 pub lengths-fit-spec : {M : Type 1} → statement M
 lengths-fit-spec =
@@ -39,4 +45,6 @@ lengths-fit-spec =
     both-requires
     same-requires-3
     both-requires-2
+    same-requires-4
+    both-requires-3
     returns)
