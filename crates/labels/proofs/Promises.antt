@@ -257,3 +257,8 @@ module _ (rows dim k : ℕ) (values centroids : List Float) (n m : ℕ) where
 -- ---- the answer and every cell follow from the call alone: any two results that a call may give are the same
 pub one-answer : {answer : Answer (List Placement)} {n : ℕ} {r r′ : LabelAnswer} {cells cells′ : List ℕ} → Gives answer n r cells → Gives answer n r′ cells′ → (r ≡ r′) × (cells ≡ cells′)
 one-answer {answer} {n} {r} {r′} g g′ = (told-once r r′ (g .result ∙ sym (g′ .result)), g .labels ∙ sym (g′ .labels))
+
+-- and so are any two distances, where they were asked for
+pub one-distances : (answer : Answer (List Placement)) (m : ℕ) (distances distances′ : List Float) → distances ≡ cellsOf zero32 m distancesOf answer
+    → distances′ ≡ cellsOf zero32 m distancesOf answer → distances ≡ distances′
+one-distances answer m distances distances′ e e′ = e ∙ sym e′

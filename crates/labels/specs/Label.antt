@@ -32,7 +32,7 @@ nearestFrom cluster (s ∷ scores) best = nearestFrom (suc cluster) scores (bett
 abbrev pub nothingYet : Nearest
 nothingYet = record { label = 0; distance = infinity }
 
--- the best of all clusters
+-- a row's search through all clusters
 unfoldable pub search : List Row → Row → Nearest
 search centroids row = nearestFrom 0 (map (score row) centroids) nothingYet
 
@@ -40,6 +40,7 @@ search centroids row = nearestFrom 0 (map (score row) centroids) nothingYet
 unfoldable pub placement : Nearest → Placement
 placement best = cond (lt (best .distance) infinity) (Placed (best .label) (best .distance)) Unplaced
 
+-- a row's answer
 unfoldable pub nearest : List Row → Row → Placement
 nearest centroids row = placement (search centroids row)
 
