@@ -9,10 +9,13 @@ typedef __UINTPTR_TYPE__ uintptr_t;
 typedef __SIZE_TYPE__ size_t;
 
 enum { LABEL, CLOSURE, LABEL_ROWS, PLACE_ROWS, KMEANS, GROUP, LIST };
+// Which of a function's two ways is called; one that has no old way is strict.
+enum { STRICT, OLD_WAY };
 enum { NUMBERS = 8, MOST_SLICES = 10 };
 
 struct header {
     uint32_t which;
+    uint32_t way;
     uint32_t slices;
     uint32_t numbers[NUMBERS];
 };

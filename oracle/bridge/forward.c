@@ -78,55 +78,72 @@ static uint32_t bits(float value) {
 #define READ(name) {(void *)name, name##_cells, sizeof *name, 0}
 #define WRITTEN(name) {name, name##_cells, sizeof *name, 1}
 #define FIGURE(name) {name, 1, sizeof *name, 1}
-#define FORWARD(which, ...)                                                                             \
-    struct header header = {which, sizeof lent / sizeof *lent, {__VA_ARGS__}};                          \
+#define FORWARD(which, way, ...)                                                                        \
+    struct header header = {which, way, sizeof lent / sizeof *lent, {__VA_ARGS__}};                     \
     return forward(&header, lent)
 
-uint32_t families_label(uint32_t dim, uint32_t k, SLICE(const uint8_t, row), SLICE(const uint8_t, centroids), SLICE(uint8_t, result)) {
-    struct lent lent[] = {READ(row), READ(centroids), WRITTEN(result)};
-    FORWARD(LABEL, dim, k);
-}
+// A function and the one of the same signature that is its old way.
+#define TWO_WAYS(function, name) function(name, STRICT) function(name##_old_way, OLD_WAY)
+
+#define LABEL_OF(name, way)                                                                             \
+    uint32_t name(uint32_t dim, uint32_t k, SLICE(const uint8_t, row), SLICE(const uint8_t, centroids), \
+                  SLICE(uint8_t, result)) {                                                             \
+        struct lent lent[] = {READ(row), READ(centroids), WRITTEN(result)};                             \
+        FORWARD(LABEL, way, dim, k);                                                                    \
+    }
+TWO_WAYS(LABEL_OF, families_label)
 
 uint32_t families_closure(uint32_t dim, uint32_t count, uint16_t max_replicas, float epsilon, SLICE(const uint8_t, vector),
                           SLICE(const uint8_t, centroids), SLICE(uint8_t, result)) {
     struct lent lent[] = {READ(vector), READ(centroids), WRITTEN(result)};
-    FORWARD(CLOSURE, dim, count, max_replicas, bits(epsilon));
+    FORWARD(CLOSURE, STRICT, dim, count, max_replicas, bits(epsilon));
 }
 
-uint32_t families_label_rows(uint32_t rows, uint32_t dim, uint32_t k, SLICE(const float, values), SLICE(const float, centroids),
-                             SLICE(uint16_t, labels), uint32_t *unplaced) {
-    struct lent lent[] = {READ(values), READ(centroids), WRITTEN(labels), FIGURE(unplaced)};
-    FORWARD(LABEL_ROWS, rows, dim, k);
-}
+#define LABEL_ROWS_OF(name, way)                                                                        \
+    uint32_t name(uint32_t rows, uint32_t dim, uint32_t k, SLICE(const float, values),                  \
+                  SLICE(const float, centroids), SLICE(uint16_t, labels), uint32_t *unplaced) {         \
+        struct lent lent[] = {READ(values), READ(centroids), WRITTEN(labels), FIGURE(unplaced)};        \
+        FORWARD(LABEL_ROWS, way, rows, dim, k);                                                         \
+    }
+TWO_WAYS(LABEL_ROWS_OF, families_label_rows)
 
-uint32_t families_place_rows(uint32_t rows, uint32_t dim, uint32_t k, SLICE(const float, values), SLICE(const float, centroids),
-                             SLICE(uint16_t, labels), SLICE(float, distances), uint32_t *unplaced) {
-    struct lent lent[] = {READ(values), READ(centroids), WRITTEN(labels), WRITTEN(distances), FIGURE(unplaced)};
-    FORWARD(PLACE_ROWS, rows, dim, k);
-}
+#define PLACE_ROWS_OF(name, way)                                                                        \
+    uint32_t name(uint32_t rows, uint32_t dim, uint32_t k, SLICE(const float, values),                  \
+                  SLICE(const float, centroids), SLICE(uint16_t, labels), SLICE(float, distances),      \
+                  uint32_t *unplaced) {                                                                 \
+        struct lent lent[] = {READ(values), READ(centroids), WRITTEN(labels), WRITTEN(distances),       \
+                              FIGURE(unplaced)};                                                        \
+        FORWARD(PLACE_ROWS, way, rows, dim, k);                                                         \
+    }
+TWO_WAYS(PLACE_ROWS_OF, families_place_rows)
 
-uint32_t families_kmeans(uint32_t rows, uint32_t dim, uint32_t k, uint32_t iterations, uint32_t restarts, uint32_t points, uint32_t block,
-                         SLICE(const uint32_t, draws), SLICE(const float, values), SLICE(uint16_t, labels), SLICE(float, centroids),
-                         double *objective, uint32_t *restart, uint32_t *unplaced, SLICE(float, training)) {
-    struct lent lent[] = {
-        READ(draws),       READ(values),    WRITTEN(labels),  WRITTEN(centroids),
-        FIGURE(objective), FIGURE(restart), FIGURE(unplaced), WRITTEN(training),
-    };
-    FORWARD(KMEANS, rows, dim, k, iterations, restarts, points, block);
-}
+#define KMEANS_OF(name, way)                                                                            \
+    uint32_t name(uint32_t rows, uint32_t dim, uint32_t k, uint32_t iterations, uint32_t restarts,      \
+                  uint32_t points, uint32_t block, SLICE(const uint32_t, draws),                        \
+                  SLICE(const float, values), SLICE(uint16_t, labels), SLICE(float, centroids),         \
+                  double *objective, uint32_t *restart, uint32_t *unplaced, SLICE(float, training)) {   \
+        struct lent lent[] = {                                                                          \
+            READ(draws),       READ(values),    WRITTEN(labels),  WRITTEN(centroids),                   \
+            FIGURE(objective), FIGURE(restart), FIGURE(unplaced), WRITTEN(training),                    \
+        };                                                                                              \
+        FORWARD(KMEANS, way, rows, dim, k, iterations, restarts, points, block);                        \
+    }
+TWO_WAYS(KMEANS_OF, families_kmeans)
 
-uint32_t families_group(uint32_t rows, uint32_t dim, uint32_t limit, uint32_t branching, float weight, uint32_t budget,
-                        SLICE(const uint32_t, draws), SLICE(const float, values), SLICE(uint16_t, order), SLICE(uint16_t, ends),
-                        SLICE(float, means), uint32_t *groups, uint32_t *splits, uint32_t *unplaced, SLICE(float, gathered),
-                        SLICE(float, training)) {
-    struct lent lent[] = {
-        READ(draws),    READ(values),   WRITTEN(order),   WRITTEN(ends),     WRITTEN(means),
-        FIGURE(groups), FIGURE(splits), FIGURE(unplaced), WRITTEN(gathered), WRITTEN(training),
-    };
-    FORWARD(GROUP, rows, dim, limit, branching, bits(weight), budget);
-}
+#define GROUP_OF(name, way)                                                                             \
+    uint32_t name(uint32_t rows, uint32_t dim, uint32_t limit, uint32_t branching, float weight,        \
+                  uint32_t budget, SLICE(const uint32_t, draws), SLICE(const float, values),            \
+                  SLICE(uint16_t, order), SLICE(uint16_t, ends), SLICE(float, means), uint32_t *groups, \
+                  uint32_t *splits, uint32_t *unplaced, SLICE(float, gathered), SLICE(float, training)) { \
+        struct lent lent[] = {                                                                          \
+            READ(draws),    READ(values),   WRITTEN(order),   WRITTEN(ends),     WRITTEN(means),        \
+            FIGURE(groups), FIGURE(splits), FIGURE(unplaced), WRITTEN(gathered), WRITTEN(training),     \
+        };                                                                                              \
+        FORWARD(GROUP, way, rows, dim, limit, branching, bits(weight), budget);                         \
+    }
+TWO_WAYS(GROUP_OF, families_group)
 
 uint32_t families_list(SLICE(const uint8_t, file), SLICE(uint8_t, text)) {
     struct lent lent[] = {READ(file), WRITTEN(text)};
-    FORWARD(LIST, 0);
+    FORWARD(LIST, STRICT, 0);
 }

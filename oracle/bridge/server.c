@@ -119,34 +119,38 @@ static float float_of(uint32_t bits) {
 #define SLICE(i) lent[i].at, lent[i].cells
 #define FIGURE(i) (void *)lent[i].at
 
-uint32_t families_label(uint32_t, uint32_t, TWO, TWO, TWO);
+// A function, and the one of the same signature that is its old way.
+#define TWO_WAYS(name, ...) uint32_t name(__VA_ARGS__), name##_old_way(__VA_ARGS__)
+
+TWO_WAYS(families_label, uint32_t, uint32_t, TWO, TWO, TWO);
 uint32_t families_closure(uint32_t, uint32_t, uint16_t, float, TWO, TWO, TWO);
-uint32_t families_label_rows(uint32_t, uint32_t, uint32_t, TWO, TWO, TWO, uint32_t *);
-uint32_t families_place_rows(uint32_t, uint32_t, uint32_t, TWO, TWO, TWO, TWO, uint32_t *);
-uint32_t families_kmeans(uint32_t, uint32_t, uint32_t, uint32_t, uint32_t, uint32_t, uint32_t, TWO, TWO, TWO, TWO, double *, uint32_t *,
-                         uint32_t *, TWO);
-uint32_t families_group(uint32_t, uint32_t, uint32_t, uint32_t, float, uint32_t, TWO, TWO, TWO, TWO, TWO, uint32_t *, uint32_t *,
-                        uint32_t *, TWO, TWO);
+TWO_WAYS(families_label_rows, uint32_t, uint32_t, uint32_t, TWO, TWO, TWO, uint32_t *);
+TWO_WAYS(families_place_rows, uint32_t, uint32_t, uint32_t, TWO, TWO, TWO, TWO, uint32_t *);
+TWO_WAYS(families_kmeans, uint32_t, uint32_t, uint32_t, uint32_t, uint32_t, uint32_t, uint32_t, TWO, TWO, TWO, TWO, double *, uint32_t *,
+         uint32_t *, TWO);
+TWO_WAYS(families_group, uint32_t, uint32_t, uint32_t, uint32_t, float, uint32_t, TWO, TWO, TWO, TWO, TWO, uint32_t *, uint32_t *,
+         uint32_t *, TWO, TWO);
 uint32_t families_list(TWO, TWO);
 
-static uint32_t call(uint32_t which, const uint32_t *n) {
+static uint32_t call(uint32_t which, uint32_t way, const uint32_t *n) {
+#define ASKED(name) (way == OLD_WAY ? name##_old_way : name)
     switch (which) {
     case LABEL:
-        return families_label(n[0], n[1], SLICE(0), SLICE(1), SLICE(2));
+        return ASKED(families_label)(n[0], n[1], SLICE(0), SLICE(1), SLICE(2));
     case CLOSURE:
         return families_closure(n[0], n[1], n[2], float_of(n[3]), SLICE(0), SLICE(1), SLICE(2));
     case LABEL_ROWS:
-        return families_label_rows(n[0], n[1], n[2], SLICE(0), SLICE(1), SLICE(2), FIGURE(3));
+        return ASKED(families_label_rows)(n[0], n[1], n[2], SLICE(0), SLICE(1), SLICE(2), FIGURE(3));
     case PLACE_ROWS:
-        return families_place_rows(n[0], n[1], n[2], SLICE(0), SLICE(1), SLICE(2), SLICE(3), FIGURE(4));
+        return ASKED(families_place_rows)(n[0], n[1], n[2], SLICE(0), SLICE(1), SLICE(2), SLICE(3), FIGURE(4));
     case KMEANS:
-        return families_kmeans(n[0], n[1], n[2], n[3], n[4], n[5], n[6], SLICE(0), SLICE(1), SLICE(2), SLICE(3), FIGURE(4), FIGURE(5),
-                               FIGURE(6), SLICE(7));
+        return ASKED(families_kmeans)(n[0], n[1], n[2], n[3], n[4], n[5], n[6], SLICE(0), SLICE(1), SLICE(2), SLICE(3), FIGURE(4),
+                                      FIGURE(5), FIGURE(6), SLICE(7));
     case LIST:
         return families_list(SLICE(0), SLICE(1));
     default:
-        return families_group(n[0], n[1], n[2], n[3], float_of(n[4]), n[5], SLICE(0), SLICE(1), SLICE(2), SLICE(3), SLICE(4), FIGURE(5),
-                              FIGURE(6), FIGURE(7), SLICE(8), SLICE(9));
+        return ASKED(families_group)(n[0], n[1], n[2], n[3], float_of(n[4]), n[5], SLICE(0), SLICE(1), SLICE(2), SLICE(3), SLICE(4),
+                                     FIGURE(5), FIGURE(6), FIGURE(7), SLICE(8), SLICE(9));
     }
 }
 
@@ -157,7 +161,7 @@ void serve(void) {
         get(&header, sizeof header, 1);
         if (header.slices > MOST_SLICES) leave(6);
         for (uint32_t i = 0; i < header.slices; i++) lend(i, at_front);
-        uint32_t answer = call(header.which, header.numbers);
+        uint32_t answer = call(header.which, header.way, header.numbers);
         put(&answer, sizeof answer);
         for (uint32_t i = 0; i < header.slices; i++) {
             for (int j = 0; j < MARKED; j++)

@@ -11,7 +11,7 @@ struct Slip {
     edits: &'static [(&'static str, usize, &'static str)],
 }
 
-const SLIPS: [Slip; 12] = [
+const SLIPS: [Slip; 20] = [
     // Scores are squared differences instead of the norm formula.
     Slip {
         name: "squared_differences",
@@ -159,6 +159,122 @@ const SLIPS: [Slip; 12] = [
             1,
             "unplaced += if splits > 1 { lost } else { 0 };",
         )],
+    },
+    // Request (iii): a group is split, and refused by 9, before its budget is looked at.
+    Slip {
+        name: "nine_before_seven",
+        file: "clustering.rs",
+        edits: &[
+            (
+                "if splits == self.split_budget {",
+                1,
+                "let split = self.split_cluster(&cluster, draws)?;
+                if splits == self.split_budget {",
+            ),
+            (
+                "let (parts, lost) = self.split_cluster(&cluster, draws)?;",
+                1,
+                "let (parts, lost) = split;",
+            ),
+        ],
+    },
+    // Request (iii): an oversize group's rows are looked at before it is asked whether they are enough.
+    Slip {
+        name: "nine_before_six",
+        file: "clustering.rs",
+        edits: &[(
+            "if cluster.size() < self.branching_factor {",
+            1,
+            "let norm = |row: &Member| row.vector.iter().fold(0.0, |sum: f32, v| sum + v * v);
+                let lost = |row: &&Member| !norm(row).is_finite();
+                self.mode.check_placed(cluster.data().iter().filter(lost).count() as u32)?;
+                if cluster.size() < self.branching_factor {",
+        )],
+    },
+    // Request (iii): all rows are looked at before anything is split.
+    Slip {
+        name: "whole_batch_first",
+        file: "clustering.rs",
+        edits: &[(
+            "let mut waiting = vec![",
+            1,
+            "let norm = |row: &Member| row.vector.iter().fold(0.0, |sum: f32, v| sum + v * v);
+        let lost = |row: &&Member| !norm(row).is_finite();
+        self.mode.check_placed(data.iter().filter(lost).count() as u32)?;
+        let mut waiting = vec![",
+        )],
+    },
+    // Request (iii): only the first split is looked at.
+    Slip {
+        name: "first_split_alone",
+        file: "clustering.rs",
+        edits: &[(
+            "let (parts, lost) = self.split_cluster(&cluster, draws)?;",
+            1,
+            "let mode = if splits > 1 { Mode::OldWay } else { self.mode };
+                let (parts, lost) = Self { mode, ..*self }.split_cluster(&cluster, draws)?;",
+        )],
+    },
+    // Request (iii): unplaced rows of any restart refuse, kept or not.
+    Slip {
+        name: "any_restart_refuses",
+        file: "kmeans.rs",
+        edits: &[
+            (
+                "let mut kept: Option<KMeansResult> = None;",
+                1,
+                "let mut kept: Option<KMeansResult> = None;
+                let mut most = 0;",
+            ),
+            (
+                "if restart == 0 {",
+                1,
+                "most = result.unplaced.max(most);
+                if restart == 0 {",
+            ),
+            (
+                "kept.unwrap()\n",
+                1,
+                "KMeansResult { unplaced: most, ..kept.unwrap() }\n",
+            ),
+        ],
+    },
+    // Request (iii): labels, and centroids, are written before 9 is looked for.
+    Slip {
+        name: "labels_left",
+        file: "calls.rs",
+        edits: &[
+            (
+                "mode.check_placed(unplaced)?;",
+                2,
+                "write_cells(labels, placements.iter().map(|found| found.label()));
+                mode.check_placed(unplaced)?;",
+            ),
+            (
+                "mode.check_placed(result.unplaced)?;",
+                1,
+                "write_cells(lent.labels, result.assignments.clone());
+                mode.check_placed(result.unplaced)?;",
+            ),
+        ],
+    },
+    // Request (iii): after 9 the result bytes hold the label that the old way gives.
+    Slip {
+        name: "label_bytes_left",
+        file: "calls.rs",
+        edits: &[(
+            "labelling(mode, 1, dim, k, &row, &centroids, &mut label)?;",
+            1,
+            "labelling(Mode::OldWay, 1, dim, k, &row, &centroids, &mut label)?;
+            write_bytes(result, &label);
+            labelling(mode, 1, dim, k, &row, &centroids, &mut label)?;",
+        )],
+    },
+    // Request (iii): the listing goes on in the old way.
+    Slip {
+        name: "listing_in_old_way",
+        file: "batch.rs",
+        edits: &[("grouping(Mode::Strict,", 1, "grouping(Mode::OldWay,")],
     },
 ];
 

@@ -10,7 +10,7 @@ use crate::kmeans::{
     assign_full_dataset, compute_norms, rebuild_centroid_views, run_kmeans_flat, unplaced_of,
     KMeansConfig, Placement,
 };
-use crate::refusal::Refusal;
+use crate::refusal::{Mode, Refusal};
 
 pub const BLANK_CELL: u16 = 65_535;
 pub const BLANK_FLOAT: f32 = 0.0;
@@ -75,8 +75,9 @@ fn write_cells(cells: &mut [u16], indices: impl IntoIterator<Item = usize>) {
 
 // ---- labelling
 
-/// Answers how many rows are unplaced.
+/// Answers how many rows are unplaced, which the strict way refuses.
 pub fn labelling(
+    mode: Mode,
     rows: u32,
     dim: u32,
     k: u32,
@@ -87,12 +88,16 @@ pub fn labelling(
     labels.fill(BLANK_CELL);
     let results = [labels.len()];
     let placements = placements(rows, dim, k, values, centroids, &results)?;
+    let unplaced = unplaced_of(&placements);
+    mode.check_placed(unplaced)?;
     write_cells(labels, placements.iter().map(|found| found.label()));
-    Ok(unplaced_of(&placements))
+    Ok(unplaced)
 }
 
 /// As `labelling`, with each row's distance beside its label.
+#[allow(clippy::too_many_arguments)]
 pub fn placing(
+    mode: Mode,
     rows: u32,
     dim: u32,
     k: u32,
@@ -105,11 +110,13 @@ pub fn placing(
     distances.fill(BLANK_FLOAT);
     let results = [labels.len(), distances.len()];
     let placements = placements(rows, dim, k, values, centroids, &results)?;
+    let unplaced = unplaced_of(&placements);
+    mode.check_placed(unplaced)?;
     write_cells(labels, placements.iter().map(|found| found.label()));
     for (cell, found) in distances.iter_mut().zip(&placements) {
         *cell = found.distance();
     }
-    Ok(unplaced_of(&placements))
+    Ok(unplaced)
 }
 
 /// What is found for each row; every result slice has a cell for each.
@@ -197,6 +204,7 @@ pub struct KMeansAccepted {
 }
 
 pub fn kmeans(
+    mode: Mode,
     numbers: &KMeansNumbers,
     values: &[f32],
     draws: &[u32],
@@ -225,6 +233,7 @@ pub fn kmeans(
         numbers.config(),
         &mut Draws::new(draws),
     );
+    mode.check_placed(result.unplaced)?;
     write_cells(lent.labels, result.assignments);
     lent.centroids.copy_from_slice(&result.centroids.concat());
     Ok(KMeansAccepted {
@@ -297,6 +306,7 @@ pub struct GroupingAccepted {
 }
 
 pub fn grouping(
+    mode: Mode,
     numbers: &GroupingNumbers,
     values: &[f32],
     draws: &[u32],
@@ -320,6 +330,7 @@ pub fn grouping(
         numbers.branching as usize,
         numbers.weight,
         numbers.budget as usize,
+        mode,
     );
     let found = clustering.cluster(&members(values, dim), &mut Draws::new(draws))?;
     lent.write(dim, &found);
@@ -371,12 +382,20 @@ pub fn closure(
 // ---- the exported functions on bytes
 
 /// Labelling of one row: two result bytes hold the label. Answers 0 or the refusal.
-pub fn label_bytes(dim: u32, k: u32, row: &[u8], centroids: &[u8], result: &mut [u8]) -> u32 {
+pub fn label_bytes(
+    mode: Mode,
+    dim: u32,
+    k: u32,
+    row: &[u8],
+    centroids: &[u8],
+    result: &mut [u8],
+) -> u32 {
     result.fill(BLANK_BYTE);
-    refusal_number(try_label_bytes(dim, k, row, centroids, result))
+    refusal_number(try_label_bytes(mode, dim, k, row, centroids, result))
 }
 
 fn try_label_bytes(
+    mode: Mode,
     dim: u32,
     k: u32,
     row: &[u8],
@@ -391,7 +410,7 @@ fn try_label_bytes(
     ])?;
     let mut label = [BLANK_CELL];
     let (row, centroids) = (floats_of(row), floats_of(centroids));
-    labelling(1, dim, k, &row, &centroids, &mut label)?;
+    labelling(mode, 1, dim, k, &row, &centroids, &mut label)?;
     write_bytes(result, &label);
     Ok(())
 }

@@ -7,6 +7,7 @@ use std::fmt::Debug;
 
 use crate::calls::Range;
 use crate::random::Random;
+use crate::refusal::{Mode, Refusal};
 
 mod batch;
 mod bytes;
@@ -42,6 +43,25 @@ pub trait Case: Debug + Sized {
 
     /// The refusal's number, 0 for an acceptance.
     fn number(outcome: &Self::Outcome) -> u32;
+}
+
+/// A case of a call that has two modes. `run` of it is the old way's, which accepts more.
+pub trait TwoWays: Case {
+    /// The oracle's outcome in a mode.
+    fn run_in(&self, mode: Mode) -> Self::Outcome;
+
+    /// How many rows are unplaced, where the outcome tells.
+    fn unplaced(outcome: &Self::Outcome) -> Option<u32>;
+
+    /// Whether a strict outcome goes with the old way's of the same case: it is the same where nothing is unplaced, and refused by 9
+    /// where something is. What the old way refuses before it labels has no 9; what it refuses later, by 6 or 7, may have one.
+    fn go_together(old: &Self::Outcome, strict: &Self::Outcome) -> bool {
+        let lost = Self::unplaced(old);
+        match Self::number(strict) == Refusal::UnplacedRow.number() {
+            true => lost != Some(0) && !(1..=4).contains(&Self::number(old)),
+            false => lost.is_none_or(|lost| lost == 0) && strict == old,
+        }
+    }
 }
 
 /// Lent cells come full of this, so that a cell which is left alone shows.

@@ -1,11 +1,11 @@
 //! `src/mstg/clustering.rs` of the source, its functions in its order: members carry row numbers,
-//! draws stand for the generator, splits have a budget, and where the source would panic the call
-//! is refused; without progress lines.
+//! draws stand for the generator, splits have a budget, where the source would panic the call is
+//! refused, and in the strict mode it is for an unplaced row too; without progress lines.
 
 use crate::draws::Draws;
 use crate::kmeans::run_kmeans;
 use crate::math::l2_distance_sqr;
-use crate::refusal::Refusal;
+use crate::refusal::{Mode, Refusal};
 
 #[derive(Debug, Clone)]
 pub struct Cluster {
@@ -40,6 +40,7 @@ pub struct HierarchicalClustering {
     pub balance_weight: f32,
     pub max_iterations: usize,
     pub split_budget: usize,
+    pub mode: Mode,
 }
 
 impl HierarchicalClustering {
@@ -48,6 +49,7 @@ impl HierarchicalClustering {
         branching_factor: usize,
         balance_weight: f32,
         split_budget: usize,
+        mode: Mode,
     ) -> Self {
         Self {
             max_cluster_size,
@@ -55,6 +57,7 @@ impl HierarchicalClustering {
             balance_weight,
             max_iterations: 100,
             split_budget,
+            mode,
         }
     }
 
@@ -81,7 +84,7 @@ impl HierarchicalClustering {
                 }
                 splits += 1;
 
-                let (parts, lost) = self.split_cluster(&cluster, draws);
+                let (parts, lost) = self.split_cluster(&cluster, draws)?;
                 unplaced += lost;
 
                 for part in parts {
@@ -97,12 +100,18 @@ impl HierarchicalClustering {
         })
     }
 
-    /// The parts, and how many rows k-means left unplaced.
-    fn split_cluster(&self, cluster: &Cluster, draws: &mut Draws) -> (Vec<Cluster>, u32) {
+    /// The parts, and how many rows k-means left unplaced, which the strict mode refuses before
+    /// anything is balanced.
+    fn split_cluster(
+        &self,
+        cluster: &Cluster,
+        draws: &mut Draws,
+    ) -> Result<(Vec<Cluster>, u32), Refusal> {
         let k = self.branching_factor;
         let members = cluster.data();
 
         let found = run_kmeans(members, k, self.max_iterations, draws);
+        self.mode.check_placed(found.unplaced)?;
 
         let mut parts: Vec<Vec<Member>> = vec![vec![]; k];
         for (place, &label) in found.assignments.iter().enumerate() {
@@ -118,7 +127,7 @@ impl HierarchicalClustering {
             .filter(|part| !part.is_empty())
             .map(Cluster::from_data)
             .collect();
-        (parts, found.unplaced)
+        Ok((parts, found.unplaced))
     }
 
     pub fn balance_clusters(

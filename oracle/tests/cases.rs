@@ -5,8 +5,9 @@ use std::collections::BTreeMap;
 use oracle::calls::{label_bytes, BLANK_CELL};
 use oracle::cases::{
     BatchCase, Case, ClosureBytesCase, ClosureCase, GroupingCase, GroupingOutcome, KMeansCase,
-    LabelBytesCase, LabelCase, PlaceCase, RestartsCase,
+    LabelBytesCase, LabelCase, PlaceCase, RestartsCase, TwoWays,
 };
+use oracle::refusal::Mode;
 
 const SEED: u64 = 7;
 const CASES: u64 = 2_500;
@@ -18,15 +19,23 @@ fn all<C: Case>() -> impl Iterator<Item = C> {
         .chain(C::built())
 }
 
-/// Runs all cases and asks that each of the numbers, 0 for an acceptance, is met and no other.
-fn assert_met<C: Case>(numbers: &[u32]) {
+/// Asks that each of the numbers, 0 for an acceptance, is met by all cases and no other.
+fn assert_met_by<C: Case>(run: impl Fn(&C) -> C::Outcome, numbers: &[u32]) {
     let mut met: BTreeMap<u32, usize> = BTreeMap::new();
     for case in all::<C>() {
-        *met.entry(C::number(&case.run())).or_default() += 1;
+        *met.entry(C::number(&run(&case))).or_default() += 1;
     }
     println!("{}: {met:?}", C::NAME);
     assert_eq!(met.keys().copied().collect::<Vec<_>>(), numbers);
     assert!(met[&0] as u64 > CASES / 3, "{} hardly accepts", C::NAME);
+}
+
+fn assert_met<C: Case>(numbers: &[u32]) {
+    assert_met_by(C::run, numbers);
+}
+
+fn assert_strict_met<C: TwoWays>(numbers: &[u32]) {
+    assert_met_by(|case: &C| case.run_in(Mode::Strict), numbers);
 }
 
 #[test]
@@ -40,13 +49,69 @@ fn every_refusal_is_met() {
 }
 
 #[test]
+fn every_refusal_is_met_in_the_strict_mode() {
+    assert_strict_met::<LabelCase>(&[0, 1, 2, 9]);
+    assert_strict_met::<PlaceCase>(&[0, 1, 2, 9]);
+    assert_strict_met::<KMeansCase>(&[0, 1, 2, 3, 4, 9]);
+    assert_strict_met::<LabelBytesCase>(&[0, 1, 2, 9]);
+    assert_strict_met::<GroupingCase>(&[0, 1, 2, 4, 6, 7, 9]);
+}
+
+/// Request (iii) of document 02: the strict way is the old one where nothing is unplaced.
+fn assert_ways_go_together<C: TwoWays>() {
+    for case in all::<C>() {
+        let [old, strict] = Mode::BOTH.map(|mode| case.run_in(mode));
+        assert!(C::go_together(&old, &strict), "{case:?}");
+    }
+}
+
+#[test]
+fn both_ways_go_together() {
+    assert_ways_go_together::<LabelCase>();
+    assert_ways_go_together::<PlaceCase>();
+    assert_ways_go_together::<KMeansCase>();
+    assert_ways_go_together::<RestartsCase>();
+    assert_ways_go_together::<LabelBytesCase>();
+    assert_ways_go_together::<GroupingCase>();
+}
+
+/// A row's bytes are refused by 9 exactly where labelling tells one unplaced row.
+#[test]
+fn bytes_of_an_unplaced_row_are_refused() {
+    for case in all::<LabelCase>().filter(|case| case.rows == 1) {
+        let Ok(unplaced) = case.run().answer else {
+            continue;
+        };
+        let strict = LabelBytesCase::from(&case).run_in(Mode::Strict);
+        assert_eq!(strict.number, 9 * unplaced, "{case:?}");
+        assert_eq!(strict.result == [255; 2], unplaced == 1, "{case:?}");
+    }
+}
+
+/// Two outcomes that do not go together, by the number of unplaced rows and by the refusals.
+#[test]
+fn what_does_not_go_together_is_seen() {
+    let outcome = |answer| oracle::cases::LabelOutcome {
+        answer,
+        labels: vec![0],
+    };
+    use oracle::refusal::Refusal::{UnplacedRow, WrongLength};
+    let together = |old, strict| LabelCase::go_together(&outcome(old), &outcome(strict));
+    assert!(together(Ok(0), Ok(0)) && together(Ok(1), Err(UnplacedRow)));
+    assert!(!together(Ok(1), Ok(1)) && !together(Ok(0), Err(UnplacedRow)));
+    assert!(together(Err(WrongLength), Err(WrongLength)));
+    assert!(!together(Err(WrongLength), Err(UnplacedRow)));
+    assert!(!together(Err(WrongLength), Ok(0)));
+}
+
+#[test]
 fn every_refusal_of_grouping_is_met() {
     assert_met::<GroupingCase>(&[0, 1, 2, 4, 6, 7]);
 }
 
 #[test]
 fn every_refusal_of_the_program_is_met() {
-    assert_met::<BatchCase>(&[0, 1, 4, 6, 7, 8]);
+    assert_met::<BatchCase>(&[0, 1, 4, 6, 7, 8, 9]);
 }
 
 fn assert_repeatable<C: Case>() {
@@ -77,28 +142,33 @@ fn zero(floats: &[u32]) -> bool {
     floats.iter().all(|&bits| bits == 0)
 }
 
+/// The outcomes of all cases, the old way's and the strict ones.
+fn in_both_modes<C: TwoWays>() -> impl Iterator<Item = C::Outcome> {
+    all::<C>().flat_map(|case| Mode::BOTH.map(|mode| case.run_in(mode)))
+}
+
 #[test]
 fn a_refusal_leaves_only_blanks() {
-    for case in all::<LabelCase>() {
-        let outcome = case.run();
+    for outcome in in_both_modes::<LabelCase>() {
         assert!(outcome.answer.is_ok() || blank(&outcome.labels));
     }
-    for case in all::<PlaceCase>() {
-        let outcome = case.run();
+    for outcome in in_both_modes::<PlaceCase>() {
         let blanks = blank(&outcome.labels) && zero(&outcome.distances);
         assert!(outcome.answer.is_ok() || blanks);
     }
-    for case in all::<KMeansCase>() {
-        let outcome = case.run();
+    for outcome in in_both_modes::<KMeansCase>() {
         let blanks = blank(&outcome.labels) && zero(&outcome.centroids);
+        assert!(outcome.answer.is_ok() || blanks);
+    }
+    for outcome in in_both_modes::<GroupingCase>() {
+        let blanks = blank(&outcome.order) && blank(&outcome.ends) && zero(&outcome.means);
         assert!(outcome.answer.is_ok() || blanks);
     }
     for case in all::<ClosureCase>() {
         let outcome = case.run();
         assert!(outcome.answer.is_ok() || blank(&outcome.cells));
     }
-    for case in all::<LabelBytesCase>() {
-        let outcome = case.run();
+    for outcome in in_both_modes::<LabelBytesCase>() {
         assert!(outcome.number == 0 || outcome.result.iter().all(|&byte| byte == 255));
     }
     for case in all::<ClosureBytesCase>() {
@@ -148,7 +218,15 @@ fn a_label_depends_on_its_own_row() {
         let centroids = bytes(&case.centroids);
         for (row, label) in case.values.chunks(case.dim as usize).zip(&outcome.labels) {
             let mut result = [0; 2];
-            let answer = label_bytes(case.dim, case.k, &bytes(row), &centroids, &mut result);
+            let row = bytes(row);
+            let answer = label_bytes(
+                Mode::OldWay,
+                case.dim,
+                case.k,
+                &row,
+                &centroids,
+                &mut result,
+            );
             assert_eq!((answer, u16::from_le_bytes(result)), (0, *label));
         }
     }
@@ -176,6 +254,12 @@ fn kmeans_labels_are_labels_of_its_centroids() {
         };
         let labelled = labelling.run();
         assert_eq!(labelled.labels, outcome.labels);
+        // So both are refused by 9 alike.
+        let [ours, theirs] = [
+            KMeansCase::number(&case.run_in(Mode::Strict)),
+            LabelCase::number(&labelling.run_in(Mode::Strict)),
+        ];
+        assert_eq!(ours, theirs);
         // Those of the restart kept, since the centroids are.
         assert_eq!(labelled.answer, outcome.answer.map(|found| found.2));
     }
@@ -209,6 +293,30 @@ fn a_batch_within_the_limit_has_no_unplaced_rows() {
     case = GroupingCase::simple(&[f32::NAN; 4], 1, 2, 0.5, 9);
     let accepted = case.run().answer.unwrap();
     assert_eq!((accepted.splits, accepted.unplaced), (3, 4 + 3 + 2));
+}
+
+/// Request (iii) of document 02: where 9 meets the other refusals, and where it does not come.
+#[test]
+fn every_kind_of_refusal_by_nine_is_met() {
+    let mut met: Vec<&str> = vec![];
+    for case in all::<GroupingCase>() {
+        let [old, strict] = Mode::BOTH.map(|mode| case.run_in(mode));
+        met.extend(case.strict_kinds(&old, &strict));
+    }
+    for case in all::<RestartsCase>() {
+        met.extend(case.0.strict_kinds(&case.run_in(Mode::Strict)));
+    }
+    for kind in [
+        "refused 7, with a budget of 0 and a NaN row",
+        "refused 6, with fewer rows than branching and a NaN row",
+        "accepted within the limit, with a NaN row",
+        "refused 9 after a split that places all rows",
+        "refused 9 where the old way is refused by 6 or 7 later",
+        "accepted, with unplaced rows in a restart not kept",
+        "refused 9, with none unplaced in a restart not kept",
+    ] {
+        assert!(met.contains(&kind), "no case is `{kind}`");
+    }
 }
 
 /// Asks that the accepted cases meet each of these kinds.

@@ -3,26 +3,29 @@
 use oracle::batch::listing;
 use oracle::calls::{closure, closure_bytes, kmeans, label_bytes, labelling, placing};
 use oracle::calls::{GroupingAccepted, KMeansLent, KMeansNumbers};
-use oracle::cases::{file_of, Case, GroupingCase};
+use oracle::cases::{file_of, Case, GroupingCase, TwoWays};
 use oracle::clustering::{HierarchicalClustering, Member};
 use oracle::draws::Draws;
 use oracle::kmeans::{run_kmeans_flat, KMeansConfig};
+use oracle::refusal::{Mode, Refusal};
 
 fn listing_of(case: &GroupingCase) -> String {
     let file = file_of(b"", &case.numbers, &case.values, &case.draws);
     String::from_utf8(listing(&file)).unwrap()
 }
 
-fn label_of(value: f32, centroids: &[f32]) -> u16 {
+/// The label of one row of one reading, and the refusal's number or 0: by labelling and on bytes the same.
+fn label_of(mode: Mode, value: f32, centroids: &[f32]) -> (u32, u16) {
     let mut labels = [9];
     let k = centroids.len() as u32;
-    labelling(1, 1, k, &[value], centroids, &mut labels).unwrap();
+    let told = labelling(mode, 1, 1, k, &[value], centroids, &mut labels);
 
     let bytes: Vec<u8> = centroids.iter().flat_map(|c| c.to_le_bytes()).collect();
     let mut result = [9; 2];
-    let answer = label_bytes(1, k, &value.to_le_bytes(), &bytes, &mut result);
-    assert_eq!((answer, u16::from_le_bytes(result)), (0, labels[0]));
-    labels[0]
+    let answer = label_bytes(mode, 1, k, &value.to_le_bytes(), &bytes, &mut result);
+    let number = told.err().map_or(0, Refusal::number);
+    assert_eq!((answer, u16::from_le_bytes(result)), (number, labels[0]));
+    (number, labels[0])
 }
 
 fn closure_of(epsilon: f32, max_replicas: u16) -> Vec<u16> {
@@ -45,7 +48,7 @@ fn balanced(sizes: &[usize], weight: f32) -> (Vec<usize>, usize) {
         .map(|&n| (0..n).map(member).collect())
         .collect();
     let centroids = vec![vec![0.0]; sizes.len()];
-    let clustering = HierarchicalClustering::new(0, sizes.len(), weight, 0);
+    let clustering = HierarchicalClustering::new(0, sizes.len(), weight, 0, Mode::Strict);
     let after: Vec<usize> = clustering
         .balance_clusters(clusters, &centroids)
         .iter()
@@ -72,6 +75,7 @@ fn p1_listing_whole() {
 fn p1_result_cells() {
     let case = GroupingCase::simple(&[0.0, 1.0, 10.0, 11.0], 2, 2, 0.0, 4);
     let outcome = case.run();
+    assert_eq!(outcome, case.run_in(Mode::Strict));
     let accepted = GroupingAccepted {
         groups: 2,
         splits: 1,
@@ -112,23 +116,32 @@ fn p4_first_below_the_share_takes() {
 
 #[test]
 fn p5_p6_p7_labels() {
-    assert_eq!(label_of(1.0, &[1.0, 1.0]), 0);
-    assert_eq!(label_of(2.0, &[f32::NAN, 2.0]), 1);
-    assert_eq!(label_of(f32::NAN, &[1.0, 2.0]), 0);
+    for mode in Mode::BOTH {
+        assert_eq!(label_of(mode, 1.0, &[1.0, 1.0]), (0, 0));
+        assert_eq!(label_of(mode, 2.0, &[f32::NAN, 2.0]), (0, 1));
+    }
+    // P7 is the old way's; beside it the refusal of request (iii) of document 02.
+    assert_eq!(label_of(Mode::OldWay, f32::NAN, &[1.0, 2.0]), (0, 0));
+    assert_eq!(label_of(Mode::Strict, f32::NAN, &[1.0, 2.0]), (9, 65_535));
 }
 
 /// Request (ii) of document 02: the distance, infinity where nothing is found, and how many rows that is so for.
 #[test]
 fn p5_p6_p7_placements() {
-    let place = |value: f32, centroids: &[f32]| {
+    let place = |mode: Mode, value: f32, centroids: &[f32]| {
         let (mut label, mut distance) = ([9], [9.0]);
         let k = centroids.len() as u32;
-        let unplaced = placing(1, 1, k, &[value], centroids, &mut label, &mut distance);
+        let lent = (&mut label, &mut distance);
+        let unplaced = placing(mode, 1, 1, k, &[value], centroids, lent.0, lent.1);
         (unplaced, label[0], distance[0])
     };
-    assert_eq!(place(1.0, &[1.0, 1.0]), (Ok(0), 0, 0.0));
-    assert_eq!(place(2.5, &[f32::NAN, 2.0]), (Ok(0), 1, 0.25));
-    assert_eq!(place(f32::NAN, &[1.0, 2.0]), (Ok(1), 0, f32::INFINITY));
+    for mode in Mode::BOTH {
+        assert_eq!(place(mode, 1.0, &[1.0, 1.0]), (Ok(0), 0, 0.0));
+        assert_eq!(place(mode, 2.5, &[f32::NAN, 2.0]), (Ok(0), 1, 0.25));
+    }
+    let p7 = |mode| place(mode, f32::NAN, &[1.0, 2.0]);
+    assert_eq!(p7(Mode::OldWay), (Ok(1), 0, f32::INFINITY));
+    assert_eq!(p7(Mode::Strict), (Err(Refusal::UnplacedRow), 65_535, 0.0));
 }
 
 #[test]
@@ -161,15 +174,17 @@ fn p10_kmeans_of_two() {
         points_per_centroid: 256,
         block: 32_768,
     };
-    let (mut labels, mut centroids) = ([9; 2], [9.0; 1]);
-    let lent = KMeansLent {
-        labels: &mut labels,
-        centroids: &mut centroids,
-    };
-    let accepted = kmeans(&numbers, &[0.0, 1.0], &[0], true, lent).unwrap();
-    assert_eq!((accepted.objective, accepted.restart), (0.5, 0));
-    assert_eq!(accepted.unplaced, 0);
-    assert_eq!((labels, centroids), ([0, 0], [0.5]));
+    for mode in Mode::BOTH {
+        let (mut labels, mut centroids) = ([9; 2], [9.0; 1]);
+        let lent = KMeansLent {
+            labels: &mut labels,
+            centroids: &mut centroids,
+        };
+        let accepted = kmeans(mode, &numbers, &[0.0, 1.0], &[0], true, lent).unwrap();
+        assert_eq!((accepted.objective, accepted.restart), (0.5, 0));
+        assert_eq!(accepted.unplaced, 0);
+        assert_eq!((labels, centroids), ([0, 0], [0.5]));
+    }
 }
 
 #[test]
@@ -210,7 +225,7 @@ fn defaults_are_the_sources() {
     assert_eq!((config.niter, config.nredo), (25, 1));
     assert_eq!(config.max_points_per_centroid, 256);
     assert_eq!(config.decode_block_size, 32_768);
-    let clustering = HierarchicalClustering::new(1, 2, 0.0, 3);
+    let clustering = HierarchicalClustering::new(1, 2, 0.0, 3, Mode::Strict);
     assert_eq!(clustering.max_iterations, 100);
 }
 

@@ -4,12 +4,17 @@ use oracle::batch::listing;
 use oracle::calls::*;
 use oracle::cases::{file_of, Case};
 use oracle::cases::{ClosureBytesCase, ClosureCase, GroupingCase, KMeansCase, LabelBytesCase};
-use oracle::cases::{LabelCase, PlaceCase, STALE_BYTE};
+use oracle::cases::{LabelCase, PlaceCase, RestartsCase, TwoWays, STALE_BYTE};
+use oracle::refusal::Mode;
 
 const FAR: [u32; 3] = [65_536, 1 << 31, u32::MAX];
 
 fn number_of<C: Case>(case: &C) -> u32 {
     C::number(&case.run())
+}
+
+fn strict_number_of<C: TwoWays>(case: &C) -> u32 {
+    C::number(&case.run_in(Mode::Strict))
 }
 
 /// Sets a number to both ends of its range and past them; ends must not give 1.
@@ -425,6 +430,199 @@ fn refusal_8_lengths_of_the_file() {
     assert_eq!(listing(&file), b"refused 8\n");
 }
 
+/// A change to a case that is refused by 9 in the strict mode, and the number that it is then refused by in both, or 0.
+type Spoil<'a, C> = (&'a dyn Fn(&mut C), u32);
+
+/// What stands before 9 is given in both modes, and 9 alone is the strict one's.
+fn assert_order<C: TwoWays + Clone>(unplaced: &C, spoils: &[Spoil<C>]) {
+    assert_eq!(number_of(unplaced), 0, "{}", C::NAME);
+    assert_eq!(strict_number_of(unplaced), 9, "{}", C::NAME);
+    for (spoil, number) in spoils {
+        let mut case = unplaced.clone();
+        spoil(&mut case);
+        assert_eq!(number_of(&case), *number, "{}", C::NAME);
+        assert_eq!(strict_number_of(&case), *number, "{}", C::NAME);
+    }
+}
+
+#[test]
+fn refusal_9_comes_after_1_and_2_in_labelling() {
+    let mut labels = label_case();
+    labels.values[3] = f32::NAN;
+    let spoils: [Spoil<LabelCase>; 3] = [
+        (&|case| case.k = 65, 1),
+        (&|case| case.label_cells += 1, 2),
+        // No row is labelled, so that none is unplaced.
+        (
+            &|case| (case.rows, case.values, case.label_cells) = (0, vec![], 0),
+            0,
+        ),
+    ];
+    assert_order(&labels, &spoils);
+
+    let spoils: [Spoil<PlaceCase>; 2] = [
+        (&|case| case.labelling.dim = 0, 1),
+        (&|case| case.distance_cells -= 1, 2),
+    ];
+    assert_order(&PlaceCase::from(labels), &spoils);
+
+    let mut bytes = label_bytes_case();
+    bytes.row = [f32::NAN, 0.0].map(f32::to_le_bytes).concat();
+    let spoils: [Spoil<LabelBytesCase>; 2] =
+        [(&|case| case.k = 0, 1), (&|case| case.result_bytes = 3, 2)];
+    assert_order(&bytes, &spoils);
+}
+
+/// An unplaced row needs no odd reading: centroids that are all odd do as well.
+#[test]
+fn refusal_9_for_odd_centroids() {
+    let mut case = label_case();
+    case.centroids = vec![f32::NAN; 4];
+    assert_eq!(strict_number_of(&case), 9);
+    case.centroids[..2].fill(0.0);
+    assert_eq!(strict_number_of(&case), 0);
+}
+
+#[test]
+fn refusal_9_comes_after_1_to_4_in_kmeans() {
+    let mut case = kmeans_case();
+    case.values[0] = f32::NAN;
+    let spoils: [Spoil<KMeansCase>; 4] = [
+        (&|case| case.numbers.block = 0, 1),
+        (&|case| case.work_fits = false, 2),
+        (&|case| (case.numbers.k, case.centroid_cells) = (5, 10), 3),
+        (&|case| case.draws.clear(), 4),
+    ];
+    assert_order(&case, &spoils);
+}
+
+#[test]
+fn refusal_9_comes_after_6_and_7_in_grouping() {
+    let mut case = grouping_case();
+    case.values[0] = f32::NAN;
+    let spoils: [Spoil<GroupingCase>; 6] = [
+        (&|case| case.numbers.budget = 8_193, 1),
+        (&|case| case.mean_cells += 1, 2),
+        (&|case| case.draws.clear(), 4),
+        (&|case| case.numbers.branching = 4, 6),
+        (&|case| case.numbers.budget = 0, 7),
+        // Nothing is labelled within the limit.
+        (&|case| case.numbers.size_limit = 3, 0),
+    ];
+    assert_order(&case, &spoils);
+    let none = GroupingCase::simple(&[], 2, 2, 0.0, 0);
+    assert_eq!(strict_number_of(&none), 0);
+}
+
+/// The first group taken for which 6, 7 or 9 holds decides; 9 of a group comes after its own 6 and 7, and before those of later ones.
+#[test]
+fn refusal_9_falls_at_its_group() {
+    // Balancing parts what nothing places; in the old way that comes to an end, or to the end of the budget.
+    let nan = |budget| GroupingCase::simple(&[f32::NAN; 4], 1, 2, 0.5, budget);
+    assert_eq!(
+        [nan(3), nan(2), nan(0)].map(|case| number_of(&case)),
+        [0, 7, 7]
+    );
+    let strict = [nan(3), nan(2), nan(0)].map(|case| strict_number_of(&case));
+    assert_eq!(strict, [9, 9, 7]);
+    // A limit of 0 ends by 6 at a group of one row, long after the first split.
+    let fewer = GroupingCase::simple(&[f32::NAN; 4], 0, 2, 0.5, 9);
+    assert_eq!((number_of(&fewer), strict_number_of(&fewer)), (6, 9));
+    // The mean of rows of either sign is near enough to place them all; two rows of one sign have no such mean.
+    let large = [1.5e19, -1.5e19, 1.5e19, -1.5e19, 1.5e19, -1.5e19];
+    let later = |budget| GroupingCase::simple(&large, 1, 2, 0.5, budget);
+    assert_eq!(strict_number_of(&later(9)), 9);
+    assert_eq!(strict_number_of(&later(1)), 7);
+    let parts = GroupingCase::simple(&large, 4, 2, 0.5, 1);
+    assert_eq!(parts.run(), parts.run_in(Mode::Strict));
+    assert_eq!(strict_number_of(&parts), 0);
+}
+
+/// Two restarts, of which one places every row and the other does not: the second is not kept, and then the first is.
+#[test]
+fn refusal_9_is_the_kept_restarts_alone() {
+    let [by_second, by_kept] = &RestartsCase::built()[..] else {
+        panic!("two cases are built");
+    };
+    let unplaced = |case: &RestartsCase| case.run().answer.unwrap().2;
+    assert_eq!(
+        by_second.0.strict_kinds(&by_second.run()),
+        ["accepted, with unplaced rows in a restart not kept"]
+    );
+    assert_eq!((unplaced(by_second), strict_number_of(by_second)), (0, 0));
+    assert_eq!((unplaced(by_kept), strict_number_of(by_kept)), (1, 9));
+    // The other restart alone is accepted.
+    let mut other = by_kept.clone();
+    other.0.draws.drain(..2);
+    other.0.numbers.restarts = 1;
+    assert_eq!((unplaced(&other), strict_number_of(&other)), (0, 0));
+}
+
+#[test]
+fn refusal_9_leaves_only_blanks() {
+    let mut case = PlaceCase::from(label_case());
+    case.labelling.values[3] = f32::NAN;
+    let outcome = case.run_in(Mode::Strict);
+    assert_eq!(
+        (outcome.labels, outcome.distances),
+        (vec![65_535; 3], vec![0; 3])
+    );
+    assert_eq!(case.labelling.run_in(Mode::Strict).labels, [65_535; 3]);
+
+    let mut case = kmeans_case();
+    case.values[0] = f32::NAN;
+    let outcome = case.run_in(Mode::Strict);
+    assert_eq!(
+        (outcome.labels, outcome.centroids),
+        (vec![65_535; 4], vec![0; 4])
+    );
+
+    let mut case = grouping_case();
+    case.values[0] = f32::NAN;
+    let outcome = case.run_in(Mode::Strict);
+    assert_eq!(
+        (outcome.order, outcome.ends),
+        (vec![65_535; 3], vec![65_535; 3])
+    );
+    assert_eq!(outcome.means, [0; 6]);
+
+    let nan = f32::NAN.to_le_bytes();
+    let mut result = [STALE_BYTE; 2];
+    assert_eq!(
+        label_bytes(Mode::Strict, 1, 1, &nan, &[0; 4], &mut result),
+        9
+    );
+    assert_eq!(result, [255; 2]);
+    assert_eq!(
+        label_bytes(Mode::OldWay, 1, 1, &nan, &[0; 4], &mut result),
+        0
+    );
+    assert_eq!(result, [0; 2]);
+}
+
+#[test]
+fn the_listing_is_strict() {
+    let text = |case: &GroupingCase| {
+        let file = file_of(b"", &case.numbers, &case.values, &case.draws);
+        String::from_utf8(listing(&file)).unwrap()
+    };
+    let nan = [0.0, f32::NAN, 1.0];
+    assert_eq!(
+        text(&GroupingCase::simple(&nan, 2, 2, 0.5, 9)),
+        "refused 9\n"
+    );
+    assert_eq!(
+        text(&GroupingCase::simple(&nan, 2, 2, 0.5, 0)),
+        "refused 7\n"
+    );
+    assert_eq!(
+        text(&GroupingCase::simple(&nan, 2, 4, 0.5, 0)),
+        "refused 6\n"
+    );
+    let within = "accepted groups 1 splits 0\n3: 0 1 2\n";
+    assert_eq!(text(&GroupingCase::simple(&nan, 3, 2, 0.5, 9)), within);
+}
+
 #[test]
 fn wrong_lengths_are_blanked_too() {
     let mut case = kmeans_case();
@@ -448,7 +646,8 @@ fn wrong_lengths_are_blanked_too() {
     assert_eq!(outcome.means, [0; 11]);
 
     let mut result = [STALE_BYTE; 5];
-    assert_eq!(label_bytes(1, 1, &[0; 4], &[0; 4], &mut result), 2);
+    let strict = Mode::Strict;
+    assert_eq!(label_bytes(strict, 1, 1, &[0; 4], &[0; 4], &mut result), 2);
     assert_eq!(result, [255; 5]);
     let mut result = [STALE_BYTE; 3];
     assert_eq!(closure_bytes(1, 65, 0, 0.0, &[], &[], &mut result), 1);

@@ -13,6 +13,13 @@ macro_rules! outcome {
             format!("{:?}", $case::generate(SEED, index).run())
         }
     };
+    (strict $($oracle:ident)::+, $case:ident) => {
+        |index| {
+            use $($oracle)::+::cases::{Case, TwoWays, $case};
+            use $($oracle)::+::refusal::Mode;
+            format!("{:?}", $case::generate(SEED, index).run_in(Mode::Strict))
+        }
+    };
 }
 
 fn differing(cases: u64, right: fn(u64) -> String, wrong: fn(u64) -> String) -> usize {
@@ -31,10 +38,32 @@ macro_rules! assert_told_apart {
     };
 }
 
+/// In the strict mode; the old way is another slip's or nobody's.
+macro_rules! assert_strict_told_apart {
+    ($slip:ident, $case:ident) => {
+        let right = outcome!(strict oracle, $case);
+        let wrong = outcome!(strict slipped::$slip, $case);
+        let count = differing(CASES, right, wrong);
+        let (slip, case) = (stringify!($slip), stringify!($case));
+        println!("{slip}: {count} of {CASES} strict {case} differ");
+        assert!(count > 0, "no strict {case} tells {slip} apart");
+    };
+}
+
 macro_rules! assert_same {
     ($case:ident: $($slip:ident),+) => {
         $(
             let (right, wrong) = (outcome!(oracle, $case), outcome!(slipped::$slip, $case));
+            assert_eq!(differing(SAME_CASES, right, wrong), 0);
+        )+
+    };
+}
+
+macro_rules! assert_strict_same {
+    ($case:ident: $($slip:ident),+) => {
+        $(
+            let right = outcome!(strict oracle, $case);
+            let wrong = outcome!(strict slipped::$slip, $case);
             assert_eq!(differing(SAME_CASES, right, wrong), 0);
         )+
     };
@@ -84,6 +113,8 @@ fn label_0_counted_as_unplaced() {
     assert_told_apart!(zero_is_unplaced, PlaceCase);
     assert_told_apart!(zero_is_unplaced, KMeansCase);
     assert_told_apart!(zero_is_unplaced, GroupingCase);
+    // A listing is strict, so that it shows there too.
+    assert_told_apart!(zero_is_unplaced, BatchCase);
 }
 
 #[test]
@@ -106,6 +137,43 @@ fn training_rows_counted_as_unplaced() {
 #[test]
 fn one_splits_count_left_out() {
     assert_told_apart!(first_split_uncounted, GroupingCase);
+}
+
+#[test]
+fn nine_looked_for_before_seven_or_six() {
+    assert_strict_told_apart!(nine_before_seven, GroupingCase);
+    assert_told_apart!(nine_before_seven, BatchCase);
+    assert_strict_told_apart!(nine_before_six, GroupingCase);
+    assert_told_apart!(nine_before_six, BatchCase);
+}
+
+#[test]
+fn the_whole_batch_looked_at_before_any_split() {
+    assert_strict_told_apart!(whole_batch_first, GroupingCase);
+    assert_told_apart!(whole_batch_first, BatchCase);
+}
+
+#[test]
+fn later_splits_not_looked_at() {
+    assert_strict_told_apart!(first_split_alone, GroupingCase);
+}
+
+#[test]
+fn any_restart_refusing() {
+    assert_strict_told_apart!(any_restart_refuses, RestartsCase);
+}
+
+#[test]
+fn labels_left_in_the_cells_after_nine() {
+    assert_strict_told_apart!(labels_left, LabelCase);
+    assert_strict_told_apart!(labels_left, PlaceCase);
+    assert_strict_told_apart!(labels_left, KMeansCase);
+    assert_strict_told_apart!(label_bytes_left, LabelBytesCase);
+}
+
+#[test]
+fn the_listing_in_the_old_way() {
+    assert_told_apart!(listing_in_old_way, BatchCase);
 }
 
 /// Request (i) of document 02: what document 01's rule refused by 7 is parted on a later pass.
@@ -134,6 +202,15 @@ fn a_slip_changes_only_its_own_place() {
     assert_same!(KMeansCase: inverse_mean, balance_toward_mean, first_come, first_split_uncounted);
     assert_same!(LabelCase: unplaced_at_zero, last_restarts_count, training_counted, first_split_uncounted);
     assert_same!(PlaceCase: last_restarts_count, training_counted, first_split_uncounted);
-    // A count is no label, centroid, group or listing.
-    assert_same!(BatchCase: zero_is_unplaced, last_restarts_count, training_counted, first_split_uncounted);
+    // A count is no label, centroid, group or listing, as long as it is zero or not with and without the slip.
+    assert_same!(BatchCase: last_restarts_count, training_counted, first_split_uncounted);
+    // Where 9 stands is nothing to the old way, nor to a call that is no grouping.
+    assert_same!(GroupingCase: nine_before_seven, nine_before_six, whole_batch_first, first_split_alone, any_restart_refuses);
+    assert_same!(LabelCase: labels_left);
+    assert_same!(PlaceCase: labels_left);
+    assert_same!(KMeansCase: labels_left);
+    assert_same!(LabelBytesCase: label_bytes_left);
+    assert_strict_same!(LabelCase: any_restart_refuses, whole_batch_first, listing_in_old_way);
+    assert_strict_same!(KMeansCase: nine_before_seven, whole_batch_first, listing_in_old_way);
+    assert_strict_same!(GroupingCase: any_restart_refuses, labels_left, listing_in_old_way);
 }

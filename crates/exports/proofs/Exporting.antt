@@ -1,7 +1,7 @@
 -- The exported functions: refusals 1 and 2, cells as bytes, and from an answer to its number and bytes. Assumes nothing.
 use Prim.Native.Nat.{ℕ, zero, suc, _+_, _*_, _/_, _%_, _≤_, _<_}
-use mathlib.Core.Path.{_≡_, refl, ap, _∙_}
-use mathlib.Core.List.{List, [], _∷_, _++_, flatMap, flatten, append-assoc}
+use mathlib.Core.Path.{_≡_, refl, sym, ap, _∙_}
+use mathlib.Core.List.{List, [], _∷_, _++_, flatMap, append-assoc}
 use native.Mathlib.Numerals.{add-one}
 use native.Mathlib.Omega.{arith}
 use borrow.Author.Tests.{eqb-true, le-leb, eq-eqb}
@@ -12,10 +12,14 @@ use Rattle.sums.specs.Rows.{Row, rowsFrom}
 use Rattle.sums.specs.Refusals.{Answer, accepted, refused, lowestFrom, unless, onAccepted, padded, cellsOf, blankCell}
 use Rattle.words.specs.Bytes.{floatsFrom, bytes16}
 use Rattle.words.proofs.ByteLaws.{floats-length}
+use Rattle.labels.specs.declared.mode.Mode.{Mode}
+use Rattle.labels.specs.Mode.{unplacedRefusal}
 use Rattle.labels.specs.declared.nearest.Placement.{Placement}
-use Rattle.labels.specs.Label.{nearest, nearests, labelIn, unplacedOf}
+use Rattle.labels.specs.Label.{nearest, nearests, labelIn, labelsOf, unplacedOf}
 use Rattle.labels.specs.Call.{labelRefusal as rowsRefusal, labelCall as rowsCall, told, Gives as Labels}
 use Rattle.labels.specs.declared.call.LabelAnswer.{LabelAnswer}
+use Rattle.labels.specs.declared.call.LabelAnswer.the-variants.{Labelled, Refused as Lost}
+use Rattle.sums.proofs.Whens.{not-both}
 use Rattle.sums.proofs.Refusing.{both, within-is, passed}
 use Rattle.closure.specs.Call.{closureCall, Gives}
 use Rattle.closure.specs.declared.call.ClosureAnswer.{ClosureAnswer}
@@ -23,12 +27,12 @@ use Rattle.closure.specs.declared.call.ClosureAnswer.the-variants.{Listed, Refu
 use Rattle.kmeans.specs.KMeans.{Result}
 use Rattle.kmeans.specs.Call.{told as kmeansTold, Gives as KMeansGives}
 use Rattle.kmeans.specs.declared.call.KMeansAnswer.{KMeansAnswer}
-use Rattle.grouping.specs.Groups.{Groups, endsFrom, meanOf}
+use Rattle.grouping.specs.Groups.{Groups}
 use Rattle.grouping.specs.Answers.{told as groupsTold, figures}
 use Rattle.grouping.specs.declared.waiting.GroupingAnswer.{GroupingAnswer}
 use Rattle.grouping.specs.Call.{Gives as GroupGives}
 use Rattle.sums.specs.Sums.{zero32}
-use Rattle.exports.specs.Exports.{codeOf, Gave, labelRefusal, labelOf, labelCall, closureRefusal, closureBytesCall, closureWritten, figureOf}
+use Rattle.exports.specs.Exports.{codeOf, figureOf, Gave, labelRefusal, placementOf, labelBy, labelCall, closureRefusal, closureBytesCall, closureWritten, LabelsGave, KMeansGave, GroupGave}
 use Rattle.sums.proofs.Fronts.{flat-append}
 
 -- ---- cells as bytes
@@ -64,10 +68,11 @@ module _ {A B : Type 0} (f : A → B) where
   same-figure blank figure (accepted a) t e = ap (figureOf blank figure) e
   same-figure blank figure (refused number) t e = ap (figureOf blank figure) e
 
--- a labelling call's number and its unplaced rows, from the answer that it was told
+-- a labelling call's whole result, from the answer that it was told
 pub label-gave : (answer : Answer (List Placement)) (n : ℕ) (r : LabelAnswer) (cells : List ℕ) (number unplaced : ℕ) → Labels answer n r cells → number ≡ codeOf (told r)
-    → unplaced ≡ figureOf 0 (λ (m : ℕ). m) (told r) → (number ≡ codeOf answer) × (unplaced ≡ figureOf 0 unplacedOf answer)
-label-gave answer n r cells number unplaced g c f = (c ∙ same-code unplacedOf answer _ (g .result), f ∙ same-figure unplacedOf 0 (λ (m : ℕ). m) answer _ (g .result))
+    → unplaced ≡ figureOf 0 (λ (m : ℕ). m) (told r) → LabelsGave answer n number cells unplaced
+label-gave answer n r cells number unplaced g c f =
+    (c ∙ same-code unplacedOf answer _ (g .result), (g .labels, f ∙ same-figure unplacedOf 0 (λ (m : ℕ). m) answer _ (g .result)))
 
 pub gave-refused : {A : Type 0} (written : A → List ℕ) (len n : ℕ) (result : List ℕ) → result ≡ replicate len 255 → Gave (refused n) len written n result
 unfolding codeOf figureOf
@@ -160,44 +165,56 @@ label-fits dim k row centroids result e =
       result-is = eqb-true result 2 (slices .1);
     }
 
-module _ (dim k : ℕ) (row centroids : List ℕ) (result : ℕ) where
-  pub label-refused : (n : ℕ) → n ≡ labelRefusal dim k (length row) (length centroids) result → (n ≡ 0 → ⊥) → labelCall dim k row centroids result ≡ refused n
+module _ (mode : Mode) (dim k : ℕ) (row centroids : List ℕ) (result : ℕ) where
+  pub label-refused : (n : ℕ) → n ≡ labelRefusal dim k (length row) (length centroids) result → (n ≡ 0 → ⊥) → labelCall mode dim k row centroids result ≡ refused n
   unfolding labelCall unless
   label-refused zero e h = absurd (h refl)
   label-refused (suc n) e h = rw (← e)
 
-  pub label-given : (len : ℕ) (bytes : List ℕ) → labelRefusal dim k (length row) (length centroids) result ≡ 0 → bytes ≡ bytes16 (labelOf dim k row centroids)
-      → Gave (labelCall dim k row centroids result) len bytes16 0 bytes
-  unfolding labelCall unless codeOf figureOf
-  label-given len bytes e b = rw e (refl, b)
+  pub label-on : labelRefusal dim k (length row) (length centroids) result ≡ 0 → labelCall mode dim k row centroids result ≡ labelBy mode (placementOf dim k row centroids)
+  unfolding labelCall unless
+  label-on e = rw e
 
--- labelling of one row alone, inside the ranges
-one-row : (dim k : ℕ) (row centroids : List Float) (r : LabelAnswer) (cells : List ℕ) → 0 < dim → dim ≤ 64 → 0 < k → k ≤ 64
-    → length row ≡ dim → length centroids ≡ k * dim → Labels (rowsCall 1 dim k row centroids 1 1) 1 r cells
-    → getD cells 0 0 ≡ labelIn (nearest (rowsFrom dim k centroids) row)
-unfolding rowsRefusal rowsCall lowestFrom unless cellsOf padded nearests rowsFrom
-one-row dim k row centroids r cells some small one few a b g =
+-- labelling of one row alone, inside the ranges, is the search's answer for it, where the mode allows that
+one-row : (mode : Mode) (dim k : ℕ) (row centroids : List Float) → 0 < dim → dim ≤ 64 → 0 < k → k ≤ 64 → length row ≡ dim → length centroids ≡ k * dim
+    → let found = nearest (rowsFrom dim k centroids) row ∷ [] in
+    rowsCall mode 1 dim k row centroids 1 1 ≡ unless (unplacedRefusal mode (unplacedOf found)) (accepted found)
+unfolding rowsRefusal rowsCall lowestFrom unless nearests rowsFrom
+one-row mode dim k row centroids some small one few a b =
     let wide : length row ≡ 1 * dim = omega arith in
     let on : rowsRefusal 1 dim k (length row) (length centroids) 1 1 ≡ 0
     = simp (le-leb 1 dim some, le-leb dim 64 small, le-leb 1 k one, le-leb k 64 few, eq-eqb (length row) (1 * dim) wide, eq-eqb (length centroids) (k * dim) b) in
-    let is : cells ≡ labelIn (nearest (rowsFrom dim k centroids) (take dim row)) ∷ [] = rw on at (g .labels) in
-    rw (is, take-all dim row (omega arith))
+    rw (on, take-all dim row (omega arith))
 
-pub one-label : (dim k : ℕ) (row centroids : List ℕ) (r : LabelAnswer) (cells : List ℕ) → 0 < dim → dim ≤ 64 → 0 < k → k ≤ 64
-    → Labels (rowsCall 1 dim k (floatsFrom dim row) (floatsFrom (k * dim) centroids) 1 1) 1 r cells → getD cells 0 0 ≡ labelOf dim k row centroids
-unfolding labelOf
-one-label dim k row centroids r cells some small one few g =
-    one-row dim k (floatsFrom dim row) (floatsFrom (k * dim) centroids) r cells some small one few (floats-length dim row) (floats-length (k * dim) centroids) g
+module _ (mode : Mode) (dim k : ℕ) (row centroids : List ℕ) (r : LabelAnswer) (cells : List ℕ) (some : 0 < dim) (small : dim ≤ 64) (one : 0 < k) (few : k ≤ 64)
+    (g : Labels (rowsCall mode 1 dim k (floatsFrom dim row) (floatsFrom (k * dim) centroids) 1 1) 1 r cells) (len : ℕ) (bytes : List ℕ) where
+  abbrev found : Placement
+  found = placementOf dim k row centroids
+
+  one-found : rowsCall mode 1 dim k (floatsFrom dim row) (floatsFrom (k * dim) centroids) 1 1 ≡ unless (unplacedRefusal mode (unplacedOf (found ∷ []))) (accepted (found ∷ []))
+  unfolding placementOf
+  one-found = one-row mode dim k (floatsFrom dim row) (floatsFrom (k * dim) centroids) some small one few (floats-length dim row) (floats-length (k * dim) centroids)
+
+  -- the one cell's label is written
+  pub label-placed : (n : ℕ) → r ≡ Labelled n → bytes ≡ bytes16 (getD cells 0 0) → Gave (labelBy mode found) len bytes16 0 bytes
+  unfolding labelBy unless onAccepted cellsOf padded codeOf figureOf
+  label-placed n e w = go (unplacedRefusal mode (unplacedOf (found ∷ []))) (rw (e, one-found) at (g .result)) (rw one-found at (g .labels))
+    where
+      go : (lost : ℕ) → told (Labelled n) ≡ onAccepted unplacedOf (unless lost (accepted (found ∷ []))) → cells ≡ cellsOf blankCell 1 labelsOf (unless lost (accepted (found ∷ [])))
+          → Gave (unless lost (accepted (labelIn found))) len bytes16 0 bytes
+      go zero t c = (refl, w ∙ ap (λ (l : List ℕ). bytes16 (getD l 0 0)) c)
+      go (suc lost) t c = absurd (not-both n (suc lost) t)
+
+  -- the refusal's number, and the bytes as they were
+  pub label-lost : (n : ℕ) → r ≡ Lost n → bytes ≡ replicate len 255 → Gave (labelBy mode found) len bytes16 n bytes
+  unfolding labelBy unless onAccepted codeOf figureOf
+  label-lost n e w = go (unplacedRefusal mode (unplacedOf (found ∷ []))) (rw (e, one-found) at (g .result))
+    where
+      go : (lost : ℕ) → told (Lost n) ≡ onAccepted unplacedOf (unless lost (accepted (found ∷ []))) → Gave (unless lost (accepted (labelIn found))) len bytes16 n bytes
+      go zero t = absurd (not-both _ n (sym t))
+      go (suc lost) t = (cc, w)
 
 -- ---- k-means: from the enum to the number and the figures
-abbrev pub KMeansGave : Answer Result → ℕ → ℕ → ℕ → List ℕ → List Float → Float → ℕ → ℕ → Type 0
-KMeansGave answer labelCells centroidCells r labels centroids objective restart unplaced =
-    (r ≡ codeOf answer)
-    × ((labels ≡ cellsOf blankCell labelCells (λ (a : Result). a .labels) answer)
-    × ((centroids ≡ cellsOf zero32 centroidCells (λ (a : Result). flatten (a .centroids)) answer)
-    × ((objective ≡ figureOf zero32 (λ (a : Result). a .objective) answer)
-    × ((restart ≡ figureOf 0 (λ (a : Result). a .restart) answer) × (unplaced ≡ figureOf 0 (λ (a : Result). a .unplaced) answer)))))
-
 pub kmeans-gave : (labelCells centroidCells : ℕ) (r : KMeansAnswer) (labels : List ℕ) (centroids : List Float) (answer : Answer Result) (number : ℕ) (o : Float) (n u : ℕ)
     → KMeansGives answer labelCells centroidCells r labels centroids → number ≡ codeOf (kmeansTold r)
     → (o ≡ figureOf zero32 (λ (f : Float × ℕ × ℕ). f .0) (kmeansTold r))
@@ -211,15 +228,6 @@ kmeans-gave labelCells centroidCells r labels centroids answer number o n u g c 
     (c ∙ same-code figures answer _ (g .result), (g .labelled, (g .centred, (objective, (restart, unplaced)))))
 
 -- ---- grouping: from the enum to the number and the counts
-abbrev pub GroupGave : Answer Groups → ℕ → List Row → ℕ → ℕ → ℕ → ℕ → List ℕ → List ℕ → List Float → ℕ → ℕ → ℕ → Type 0
-GroupGave answer dim rows orderCells endCells meanCells r order ends means groups splits unplaced =
-    (r ≡ codeOf answer)
-    × ((order ≡ cellsOf blankCell orderCells (λ (g : Groups). flatten (g .groups)) answer)
-    × ((ends ≡ cellsOf blankCell endCells (λ (g : Groups). endsFrom 0 (g .groups)) answer)
-    × ((means ≡ cellsOf zero32 meanCells (λ (g : Groups). flatMap (meanOf dim rows) (g .groups)) answer)
-    × ((groups ≡ figureOf 0 (λ (g : Groups). length (g .groups)) answer) × ((splits ≡ figureOf 0 (λ (g : Groups). g .splits) answer)
-    × (unplaced ≡ figureOf 0 (λ (g : Groups). g .unplaced) answer))))))
-
 pub group-gave : (dim : ℕ) (rows : List Row) (orderCells endCells meanCells : ℕ) (r : GroupingAnswer) (order ends : List ℕ) (means : List Float) (answer : Answer Groups) (number n m u : ℕ)
     → GroupGives answer dim rows orderCells endCells meanCells r order ends means → number ≡ codeOf (groupsTold r)
     → (n ≡ figureOf 0 (λ (f : ℕ × ℕ × ℕ). f .0) (groupsTold r))

@@ -1,6 +1,6 @@
 -- What the exported functions promise of the number that they return: which refuses a call, and exactly when. Assumes nothing.
-use Prim.Native.Nat.{ℕ, suc, _+_, _*_}
-use mathlib.Core.Path.{_≡_, refl, sym, _∙_}
+use Prim.Native.Nat.{ℕ, suc, _+_, _*_, _<_}
+use mathlib.Core.Path.{_≡_, refl, sym, ap, _∙_}
 use mathlib.Core.Bool.{Bool, true, false, _&&_, false≢true}
 use mathlib.Core.Logic.{_↔_, _⊎_, ⊎-elim, inl, inr}
 use mathlib.Core.List.{List, [], _∷_}
@@ -10,16 +10,22 @@ use borrow.Author.Tests.{eq-eqb}
 use lib.Dec.{eqb}
 use lib.Ieee.{Float}
 use lib.ListN.{length}
-use Rattle.sums.specs.Refusals.{Answer, accepted, refused, within}
+use Rattle.sums.specs.Refusals.{Answer, accepted, refused, within, unless}
 use Rattle.sums.proofs.Whens.{not-both, fails-exactly, later-exactly, accepted-exactly, refused-by, one-or-two}
 use Rattle.sums.specs.Rows.{rowsFrom}
 use Rattle.words.specs.Bytes.{floatsFrom}
 use Rattle.words.proofs.ByteLaws.{floats-length}
-use Rattle.labels.specs.Label.{search}
+use Rattle.labels.specs.declared.mode.Mode.{Mode}
+use Rattle.labels.specs.declared.mode.Mode.the-variants.{Strict, OldWay}
+use Rattle.labels.specs.declared.nearest.Placement.{Placement}
+use Rattle.labels.specs.declared.nearest.Placement.the-variants.{Placed, Unplaced}
+use Rattle.labels.specs.Mode.{unplacedRefusal}
+use Rattle.labels.specs.Label.{search, labelIn, unplacedOf}
+use Rattle.labels.proofs.Modes.{allowed-nine, allowed-otherwise, allowed-accepted, called-old}
 use Rattle.labels.proofs.Places.{nearest-label}
 use Rattle.closure.specs.Call.{closureCall}
 use Rattle.closure.proofs.Promises as closure
-use Rattle.exports.specs.Exports.{codeOf, Gave, labelRefusal, labelOf, labelCall, closureRefusal, closureBytesCall}
+use Rattle.exports.specs.Exports.{codeOf, Gave, labelRefusal, placementOf, labelBy, labelCall, closureRefusal, closureBytesCall}
 
 -- ---- from an answer to its number: over typed slices too
 module _ {A : Type 0} where
@@ -42,8 +48,8 @@ module _ {A : Type 0} where
 
 -- ---- the label of one row, on bytes
 module _ (dim k : ℕ) (row centroids : List ℕ) (result : ℕ) where
-  abbrev pub labelled : Answer ℕ
-  labelled = labelCall dim k row centroids result
+  abbrev pub labelled : Mode → Answer ℕ
+  labelled mode = labelCall mode dim k row centroids result
 
   -- both numbers are in range
   abbrev pub label-ranges : Bool
@@ -53,36 +59,72 @@ module _ (dim k : ℕ) (row centroids : List ℕ) (result : ℕ) where
   abbrev pub label-bytes : Bool
   label-bytes = eqb (length row) (dim * 4) && eqb (length centroids) (k * dim * 4) && eqb result 2
 
-  abbrev label : ℕ
-  label = labelOf dim k row centroids
+  abbrev pub label-tests : List Bool
+  label-tests = label-ranges ∷ label-bytes ∷ []
+
+  -- what the search answers for the row that the bytes hold
+  abbrev pub found : Placement
+  found = placementOf dim k row centroids
+
+  one-unplaced : (0 < unplacedOf (found ∷ [])) ↔ (found ≡ Unplaced)
+  unfolding unplacedOf
+  one-unplaced = go found
+    where
+      go : (p : Placement) → (0 < unplacedOf (p ∷ [])) ↔ (p ≡ Unplaced)
+      go (Placed label distance) = ((λ h. absurd (omega (arith, h))), (λ e. let z : _≡_ {A = ℕ} 0 1 = ap (λ (p : Placement). unplacedOf (p ∷ [])) e in absurd (omega arith)))
+      go Unplaced = ((λ h. refl), (λ e. omega arith))
+
+  label-never : (mode : Mode) (number : ℕ) → number < 9 → labelBy mode found ≡ refused number → ⊥
+  unfolding labelBy
+  label-never mode number h c = absurd (omega (arith, h, allowed-otherwise mode (unplacedOf (found ∷ [])) (labelIn found) number c))
 
   -- Refused by 1 exactly when a number is out of range.
-  pub label-one : (labelled ≡ refused 1) ↔ (label-ranges ≡ false)
+  pub label-one : (mode : Mode) → (labelled mode ≡ refused 1) ↔ (label-ranges ≡ false)
   unfolding labelCall labelRefusal
-  label-one = fails-exactly (label-ranges ∷ label-bytes ∷ []) (accepted label) 0 (λ _. not-both label 1)
+  label-one mode = fails-exactly label-tests (labelBy mode found) 0 (λ _. label-never mode 1 (omega arith))
 
   -- Refused by 2 exactly when the numbers are in range and some bytes are not as many as they say.
-  pub label-two : (labelled ≡ refused 2) ↔ ((label-ranges ≡ true) × (label-bytes ≡ false))
+  pub label-two : (mode : Mode) → (labelled mode ≡ refused 2) ↔ ((label-ranges ≡ true) × (label-bytes ≡ false))
   unfolding labelCall labelRefusal
-  label-two = fails-exactly (label-ranges ∷ label-bytes ∷ []) (accepted label) 1 (λ _. not-both label 2)
+  label-two mode = fails-exactly label-tests (labelBy mode found) 1 (λ _. label-never mode 2 (omega arith))
 
-  -- Accepted, with the label, exactly when both tests pass.
-  pub label-accepted : (labelled ≡ accepted label) ↔ ((label-ranges ≡ true) × (label-bytes ≡ true))
-  unfolding labelCall labelRefusal
-  label-accepted =
-      let w = accepted-exactly (label-ranges ∷ label-bytes ∷ []) (accepted label) label in
-      ((λ c. let t = w .0 c .0 in (t .0, t .1 .0)), (λ t. w .1 ((t .0, (t .1, tt)), refl)))
+  -- Refused by 9 exactly when both tests pass, the mode is strict and the row is unplaced.
+  pub label-nine : (mode : Mode) → (labelled mode ≡ refused 9) ↔ (((label-ranges ≡ true) × (label-bytes ≡ true)) × ((mode ≡ Strict) × (found ≡ Unplaced)))
+  unfolding labelCall labelRefusal labelBy
+  label-nine mode =
+      let w = later-exactly label-tests (labelBy mode found) 9 (omega arith) in
+      let nine = allowed-nine mode (unplacedOf (found ∷ [])) (labelIn found) in (
+        (λ c. let t = w .0 c in let n = nine .0 (t .1) in ((t .0 .0, t .0 .1 .0), (n .0, one-unplaced .0 (n .1)))),
+        (λ t. w .1 ((t .0 .0, (t .0 .1, tt)), nine .1 (t .1 .0, one-unplaced .1 (t .1 .1)))),
+      )
+
+  -- Accepted, with the label, exactly when both tests pass and the mode allows an unplaced row or the row is placed.
+  pub label-accepted : (mode : Mode) → (labelled mode ≡ accepted (labelIn found))
+      ↔ (((label-ranges ≡ true) × (label-bytes ≡ true)) × (unplacedRefusal mode (unplacedOf (found ∷ [])) ≡ 0))
+  unfolding labelCall labelRefusal labelBy
+  label-accepted mode =
+      let w = accepted-exactly label-tests (labelBy mode found) (labelIn found) in
+      let in-mode = allowed-accepted mode (unplacedOf (found ∷ [])) (labelIn found) (labelIn found) in (
+        (λ c. let t = w .0 c in ((t .0 .0, t .0 .1 .0), in-mode .0 (t .1) .0)),
+        (λ t. w .1 ((t .0 .0, (t .0 .1, tt)), in-mode .1 (t .1, refl))),
+      )
 
   -- The label is the one at which the row's search ends, placed or not, as before an answer said which.
-  pub label-before : label ≡ search (rowsFrom dim k (floatsFrom (k * dim) centroids)) (floatsFrom dim row) .label
-  unfolding labelOf
+  pub label-before : labelIn found ≡ search (rowsFrom dim k (floatsFrom (k * dim) centroids)) (floatsFrom dim row) .label
+  unfolding placementOf
   label-before = nearest-label (rowsFrom dim k (floatsFrom (k * dim) centroids)) (floatsFrom dim row)
 
+  -- The old way is the call of before 02 (iii).
+  pub label-old : labelled OldWay ≡ unless (labelRefusal dim k (length row) (length centroids) result) (accepted (labelIn found))
+  unfolding labelCall labelBy
+  label-old = called-old (labelRefusal dim k (length row) (length centroids) result) (λ (label : ℕ). unplacedOf (found ∷ [])) (labelIn found)
+
   -- No other number refuses it.
-  pub label-otherwise : (number : ℕ) → labelled ≡ refused number → (number ≡ 1) ⊎ (number ≡ 2)
-  unfolding labelCall labelRefusal
-  label-otherwise number c =
-      ⊎-elim (λ h. one-or-two number (h .0) (h .1)) (λ e. absurd (not-both label number e)) (refused-by (label-ranges ∷ label-bytes ∷ []) (accepted label) number c)
+  pub label-otherwise : (mode : Mode) (number : ℕ) → labelled mode ≡ refused number → ((number ≡ 1) ⊎ (number ≡ 2)) ⊎ (number ≡ 9)
+  unfolding labelCall labelRefusal labelBy
+  label-otherwise mode number c =
+      ⊎-elim (λ h. inl (one-or-two number (h .0) (h .1))) (λ e. inr (allowed-otherwise mode (unplacedOf (found ∷ [])) (labelIn found) number e))
+      (refused-by label-tests (labelBy mode found) number c)
 
 -- ---- closure, on bytes
 module _ (epsilon : Float) (replicas dim count : ℕ) (vector centroids : List ℕ) (result : ℕ) where

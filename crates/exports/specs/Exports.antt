@@ -1,19 +1,24 @@
 -- 01, 'What is ported': the functions that the bench host calls, on numbers and little-endian bytes. Lengths are counts of bytes.
 use mathlib.Core.Path.{_≡_}
 use mathlib.Core.Bool.{_&&_}
-use mathlib.Core.List.{List, [], _∷_, _++_, flatMap}
+use mathlib.Core.List.{List, [], _∷_, _++_, flatMap, flatten}
 use Prim.Native.Nat.{ℕ, _+_, _*_}
 use lib.Dec.{eqb}
 use lib.ListN.{length, replicate}
 use lib.Ieee.{Float}
-use Rattle.sums.specs.Rows.{rowsFrom}
-use Rattle.sums.specs.Refusals.{Answer, accepted, refused, within, lowest, unless, padded, blankCell}
+use Rattle.sums.specs.Rows.{Row, rowsFrom}
+use Rattle.sums.specs.Sums.{zero32}
+use Rattle.sums.specs.Refusals.{Answer, accepted, refused, within, lowest, unless, padded, cellsOf, blankCell}
 use Rattle.words.specs.Bytes.{floatsFrom, bytes16}
-use Rattle.labels.specs.Label.{nearest, labelIn}
+use Rattle.labels.specs.declared.mode.Mode.{Mode}
+use Rattle.labels.specs.declared.nearest.Placement.{Placement}
+use Rattle.labels.specs.Mode.{unplacedRefusal}
+use Rattle.labels.specs.Label.{nearest, labelIn, labelsOf, unplacedOf}
 use Rattle.closure.specs.Call.{closureCall}
 use Rattle.kmeans.specs.declared.config.KMeansConfig.{KMeansConfig}
-use Rattle.grouping.specs.Groups.{Groups}
-use Rattle.grouping.specs.Call.{groupingCall}
+use Rattle.kmeans.specs.KMeans.{Result}
+use Rattle.grouping.specs.declared.config.GroupingConfig.{GroupingConfig}
+use Rattle.grouping.specs.Groups.{Groups, endsFrom, meanOf}
 
 -- what is returned: 0, or the refusal's number
 unfoldable pub codeOf : {A : Type 0} → Answer A → ℕ
@@ -35,13 +40,17 @@ unfoldable pub labelRefusal : ℕ → ℕ → ℕ → ℕ → ℕ → ℕ
 labelRefusal dim k row centroids result =
     lowest ((within 1 64 dim && within 1 64 k) ∷ (eqb row (dim * 4) && eqb centroids (k * dim * 4) && eqb result 2) ∷ [])
 
--- the label by the row and the centroids that the bytes hold; an unplaced row's is 0 here as ever (02 (ii))
-unfoldable pub labelOf : ℕ → ℕ → List ℕ → List ℕ → ℕ
-labelOf dim k row centroids = labelIn (nearest (rowsFrom dim k (floatsFrom (k * dim) centroids)) (floatsFrom dim row))
+-- the answer of the search, for the row and the centroids that the bytes hold
+unfoldable pub placementOf : ℕ → ℕ → List ℕ → List ℕ → Placement
+placementOf dim k row centroids = nearest (rowsFrom dim k (floatsFrom (k * dim) centroids)) (floatsFrom dim row)
+
+-- its label, or 9 where the row is unplaced and the mode is strict (02 (iii)); in the old way an unplaced row's is 0
+unfoldable pub labelBy : Mode → Placement → Answer ℕ
+labelBy mode found = unless (unplacedRefusal mode (unplacedOf (found ∷ []))) (accepted (labelIn found))
 
 -- the whole call: the label, or the refusal's number
-unfoldable pub labelCall : ℕ → ℕ → List ℕ → List ℕ → ℕ → Answer ℕ
-labelCall dim k row centroids result = unless (labelRefusal dim k (length row) (length centroids) result) (accepted (labelOf dim k row centroids))
+unfoldable pub labelCall : Mode → ℕ → ℕ → List ℕ → List ℕ → ℕ → Answer ℕ
+labelCall mode dim k row centroids result = unless (labelRefusal dim k (length row) (length centroids) result) (labelBy mode (placementOf dim k row centroids))
 
 -- ---- closure
 -- refusals 1 and 2 as for a label; the result has two bytes for each centroid and two more
@@ -59,13 +68,34 @@ closureBytesCall epsilon replicas dim count vector centroids result =
 unfoldable pub closureWritten : ℕ → List ℕ → List ℕ
 closureWritten count indices = flatMap bytes16 (padded blankCell count indices) ++ bytes16 (length indices)
 
--- ---- k-means and grouping over typed slices
--- a configuration by its four numbers
+-- ---- labelling, k-means and grouping over typed slices
+-- a labelling's whole result: its number, the n label cells, and the unplaced rows, 0 after a refusal
+abbrev pub LabelsGave : Answer (List Placement) → ℕ → ℕ → List ℕ → ℕ → Type 0
+LabelsGave answer n r cells unplaced = (r ≡ codeOf answer) × ((cells ≡ cellsOf blankCell n labelsOf answer) × (unplaced ≡ figureOf 0 unplacedOf answer))
+
+-- k-means' settings by their four numbers
 abbrev pub configOf : ℕ → ℕ → ℕ → ℕ → KMeansConfig
 configOf iterations restarts points block = record { niter = iterations; nredo = restarts; «max_points_per_centroid» = points; «decode_block_size» = block }
 
--- grouping's answer to its four numbers and what is lent
-abbrev pub groupAnswer : ℕ → ℕ → ℕ → ℕ → Float → ℕ → List ℕ → List Float → List ℕ → List ℕ → List Float → List Float → List Float → Answer Groups
-groupAnswer rows dim limit branching weight budget draws values order ends means gathered training =
-    groupingCall rows dim (record { limit = limit; branching = branching; weight = weight; budget = budget }) draws values
-    (length order ∷ length ends ∷ length means ∷ length gathered ∷ length training ∷ [])
+-- k-means' whole result: its number, both result slices, and its figures, which are +0.0, 0 and 0 after a refusal
+abbrev pub KMeansGave : Answer Result → ℕ → ℕ → ℕ → List ℕ → List Float → Float → ℕ → ℕ → Type 0
+KMeansGave answer labelCells centroidCells r labels centroids objective restart unplaced =
+    (r ≡ codeOf answer)
+    × ((labels ≡ cellsOf blankCell labelCells (λ (a : Result). a .labels) answer)
+    × ((centroids ≡ cellsOf zero32 centroidCells (λ (a : Result). flatten (a .centroids)) answer)
+    × ((objective ≡ figureOf zero32 (λ (a : Result). a .objective) answer)
+    × ((restart ≡ figureOf 0 (λ (a : Result). a .restart) answer) × (unplaced ≡ figureOf 0 (λ (a : Result). a .unplaced) answer)))))
+
+-- grouping's settings by its mode and its four numbers
+abbrev pub settingsOf : Mode → ℕ → ℕ → Float → ℕ → GroupingConfig
+settingsOf mode limit branching weight budget = record { limit = limit; branching = branching; weight = weight; budget = budget; mode = mode }
+
+-- grouping's whole result: its number, the three result slices, and its counts, 0 after a refusal
+abbrev pub GroupGave : Answer Groups → ℕ → List Row → ℕ → ℕ → ℕ → ℕ → List ℕ → List ℕ → List Float → ℕ → ℕ → ℕ → Type 0
+GroupGave answer dim rows orderCells endCells meanCells r order ends means groups splits unplaced =
+    (r ≡ codeOf answer)
+    × ((order ≡ cellsOf blankCell orderCells (λ (g : Groups). flatten (g .groups)) answer)
+    × ((ends ≡ cellsOf blankCell endCells (λ (g : Groups). endsFrom 0 (g .groups)) answer)
+    × ((means ≡ cellsOf zero32 meanCells (λ (g : Groups). flatMap (meanOf dim rows) (g .groups)) answer)
+    × ((groups ≡ figureOf 0 (λ (g : Groups). length (g .groups)) answer) × ((splits ≡ figureOf 0 (λ (g : Groups). g .splits) answer)
+    × (unplaced ≡ figureOf 0 (λ (g : Groups). g .unplaced) answer))))))

@@ -6,11 +6,14 @@ ghost use Prim.Native.Nat.{_+_, _*_, _≤_, _<_};
 ghost use lib.Dec.{eqb};
 ghost use lib.ListN.{length, replicate};
 ghost use Rattle.words.specs.Bytes.{floatsFrom, bytes16};
+ghost use Rattle.labels.specs.declared.mode.Mode.the-variants.{Strict, OldWay};
 ghost use Rattle.closure.specs.Call.{closureCall};
 ghost use Rattle.batch.specs.Batch.{listingOf, putFront};
-ghost use Rattle.exports.specs.Exports.{Gave, labelRefusal, labelCall, labelOf, closureRefusal, closureBytesCall, closureWritten};
+ghost use Rattle.exports.specs.Exports.{Gave, labelRefusal, placementOf, labelBy, labelCall, closureRefusal, closureBytesCall, closureWritten};
 use closure::call::ClosureAnswer;
 use labels::call;
+use labels::call::LabelAnswer;
+use labels::mode::Mode;
 use sums::checks;
 
 // 255 in every byte.
@@ -156,8 +159,9 @@ fn label_refusal(dim: u32, k: u32, row: usize, centroids: usize, result: usize) 
     0
 }
 
-// The label of one row whose lengths fit.
+// What is left of a call whose lengths fit, with room for the floats and the cell.
 fn label_inside(
+    mode: Mode,
     dim: u32,
     k: u32,
     row: &[u8],
@@ -166,30 +170,30 @@ fn label_inside(
     c: &mut [f32],
     cell: &mut [u16],
     result: &mut [u8],
-)
+) -> u32
     requires { ⌜ (length (now row) ≡ length (now v) * 4) × (length (now centroids) ≡ length (now c) * 4) ⌝ }
     requires { ⌜ (length (now v) ≡ dim) × ((length (now c) ≡ k * dim) × (length (now cell) ≡ 1)) ⌝ }
     requires { ⌜ (0 < dim) × ((dim ≤ 64) × ((0 < k) × (k ≤ 64))) ⌝ }
-    requires { ⌜ length (now result) ≡ 2 ⌝ }
-    ensures { λ _. ⌜ now (result .exit) ≡ bytes16 (labelOf dim k (now (row .entry)) (now (centroids .entry))) ⌝ }
+    requires { ⌜ (length (now result) ≡ 2) × (now result ≡ replicate (length (now result)) 255) ⌝ }
+    ensures { λ r. ⌜ Gave (labelBy mode (placementOf dim k (now (row .entry)) (now (centroids .entry)))) (length (now (result .entry))) bytes16
+        r (now (result .exit)) ⌝ }
 {
     words::floats_of(row, v);
     words::floats_of(centroids, c);
-    call::label_rows(1, dim, k, v, c, cell);
-    words::put_u16(result, 0, cell[0]);
+    let answer = call::label_rows(mode, 1, dim, k, v, c, cell);
+    match answer {
+        LabelAnswer::Labelled(_) => {
+            words::put_u16(result, 0, cell[0]);
+            0
+        }
+        LabelAnswer::Refused(number) => number,
+    }
 }
 
-// The label of one row, bytes in and out: 0, or the refusal's number and bytes 255.
-#[no_mangle]
-pub extern "C" fn families_label(
-    dim: u32,
-    k: u32,
-    row: &[u8],
-    centroids: &[u8],
-    result: &mut [u8],
-) -> u32
+// The label of one row in either way, for the exports of both names.
+fn label_in(mode: Mode, dim: u32, k: u32, row: &[u8], centroids: &[u8], result: &mut [u8]) -> u32
     ensures { λ r. ⌜ (let n = length (now (result .entry)) in
-        Gave (labelCall dim k (now (row .entry)) (now (centroids .entry)) n) n bytes16 r (now (result .exit))) ⌝ }
+        Gave (labelCall mode dim k (now (row .entry)) (now (centroids .entry)) n) n bytes16 r (now (result .exit))) ⌝ }
 {
     fill(result);
     let d = dim as usize;
@@ -203,6 +207,7 @@ pub extern "C" fn families_label(
     let mut c = [0.0f32; 4096];
     let mut cell = [0u16; 1];
     label_inside(
+        mode,
         dim,
         k,
         row,
@@ -211,8 +216,37 @@ pub extern "C" fn families_label(
         &mut c[..m],
         &mut cell[..1],
         result,
-    );
-    0
+    )
+}
+
+// The label of one row, bytes in and out: 0, or the refusal's number and bytes 255; 9 for an unplaced row.
+#[no_mangle]
+pub extern "C" fn families_label(
+    dim: u32,
+    k: u32,
+    row: &[u8],
+    centroids: &[u8],
+    result: &mut [u8],
+) -> u32
+    ensures { λ r. ⌜ (let n = length (now (result .entry)) in
+        Gave (labelCall Strict dim k (now (row .entry)) (now (centroids .entry)) n) n bytes16 r (now (result .exit))) ⌝ }
+{
+    label_in(Mode::Strict, dim, k, row, centroids, result)
+}
+
+// The same in the old way: an unplaced row has label 0.
+#[no_mangle]
+pub extern "C" fn families_label_old_way(
+    dim: u32,
+    k: u32,
+    row: &[u8],
+    centroids: &[u8],
+    result: &mut [u8],
+) -> u32
+    ensures { λ r. ⌜ (let n = length (now (result .entry)) in
+        Gave (labelCall OldWay dim k (now (row .entry)) (now (centroids .entry)) n) n bytes16 r (now (result .exit))) ⌝ }
+{
+    label_in(Mode::OldWay, dim, k, row, centroids, result)
 }
 
 // A batch file in, its listing out: how many bytes the listing has. A buffer that is too short gets what fits.

@@ -1,7 +1,7 @@
--- What a grouping call promises: which number refuses it and when, the rows it lists, how many it counts unplaced, and what a budget can change.
--- Assumes nothing.
-use mathlib.Core.Path.{_≡_, refl, sym, _∙_}
-use mathlib.Core.Logic.{_↔_, inl, inr}
+-- What a grouping call promises: which number refuses it and when, the rows it lists, how many it counts unplaced, and what a budget and the mode can
+-- change. Assumes nothing.
+use mathlib.Core.Path.{_≡_, refl, sym, ap, _∙_}
+use mathlib.Core.Logic.{_↔_, _⊎_, inl, inr}
 use mathlib.Core.Bool.{Bool, true, false, _&&_, false≢true}
 use mathlib.Core.List.{List, [], _∷_}
 use Prim.Native.Nat.{ℕ, zero, suc, _*_, _≤_, _<_}
@@ -15,10 +15,14 @@ use Rattle.sums.specs.Rows.{rowsFrom}
 use Rattle.sums.proofs.Rows.{rows-length}
 use Rattle.sums.specs.Refusals.{Answer, accepted, refused, within, unless, onAccepted}
 use Rattle.sums.proofs.Refusing.{both, passed, lowest-none, lowest-when, lowest-most, lowest-only}
+use Rattle.labels.specs.declared.mode.Mode.{Mode}
+use Rattle.labels.specs.declared.mode.Mode.the-variants.{Strict, OldWay}
 use Rattle.grouping.specs.declared.config.GroupingConfig.{GroupingConfig}
 use Rattle.grouping.specs.Groups.{Rule, ruleOf, Groups, partsOf, madeBy, lostBy, waits, grouping, groupFrom}
 use Rattle.grouping.specs.Call.{rangesFit, lengthsFit, groupingRefusal, groupingCall}
-use Rattle.grouping.proofs.GroupPromises.{Listing, Passes, Comes, Small, Spent, Done, six-when, six-only, seven-when, seven-only, accepted-when, accepted-only, Ends, splits-only, splits-when, only-six-or-seven, budget-accepted, budget-six, one-long, accepted-listing, accepted-unplaced, listedOf, lost-aside, lostOn, unplaced-summed}
+use Rattle.grouping.proofs.GroupPromises.{Listing, Passes, Comes, Small, Spent, Barred, Done, six-when, six-only, seven-when, seven-only, nine-when, nine-only, accepted-when, accepted-only, Ends, splits-only, splits-when, only-six-seven-or-nine, budget-accepted, budget-six, budget-nine, one-long, accepted-listing, accepted-unplaced, lostOn, unplaced-summed}
+use Rattle.grouping.proofs.Before.{groupBefore}
+use Rattle.grouping.proofs.ModePromises.{strict-or-nine, strict-accepted, old-never-nine, old-before, listedOf, lost-aside}
 use Rattle.grouping.proofs.Splits.{lost-few}
 use Rattle.grouping.proofs.Calls.{Ranged, ranged}
 use Rattle.grouping.proofs.SplitPromises.{start, parts-kept, Splits, SplitPromise, each-split}
@@ -30,16 +34,21 @@ pub data Number : ℕ → Type 0 where
   draw : Number 4
   small : Number 6
   spent : Number 7
+  unplaced : Number 9
 
 -- the budget alone may be another in range
 abbrev pub withBudget : GroupingConfig → ℕ → GroupingConfig
-withBudget config n = record { limit = config .limit; branching = config .branching; weight = config .weight; budget = n }
+withBudget config n = record { limit = config .limit; branching = config .branching; weight = config .weight; budget = n; mode = config .mode }
 
 ranged-budget : (rows dim : ℕ) (config : GroupingConfig) (n : ℕ) → rangesFit rows dim config ≡ true → n ≤ 8192 → rangesFit rows dim (withBudget config n) ≡ true
 unfolding rangesFit
 ranged-budget rows dim config n e h =
     let a : (within 0 4096 rows && within 1 64 dim && within 0 4096 (config .limit) && within 1 64 (config .branching)) ≡ true = both _ _ e .0 in
     rw (a, le-leb 0 n (omega arith), le-leb n 8192 h)
+
+-- the mode alone may be another
+abbrev pub inMode : Mode → GroupingConfig → GroupingConfig
+inMode mode config = record { limit = config .limit; branching = config .branching; weight = config .weight; budget = config .budget; mode = mode }
 
 -- One call, with its settings, its draws, its readings one after the other, and the lengths of what is lent.
 module _ (rows dim : ℕ) (config : GroupingConfig) (drawn : List ℕ) (values : List Float) (lent : List ℕ) where
@@ -71,21 +80,25 @@ module _ (rows dim : ℕ) (config : GroupingConfig) (drawn : List ℕ) (values :
 
   -- the call comes to an oversize group that has fewer rows than branching
   abbrev pub MeetsSmall : Type 0
-  MeetsSmall = Small (partsOf rule) (madeBy rule) (config .limit) (config .branching) (config .budget) 0 (start rule)
+  MeetsSmall = Small (config .mode) (partsOf rule) (madeBy rule) (lostBy rule) (config .limit) (config .branching) (config .budget) 0 (start rule)
 
   -- it comes to an oversize group that has no fewer, when the splits done equal the budget
   abbrev pub MeetsSpent : Type 0
-  MeetsSpent = Spent (partsOf rule) (madeBy rule) (config .limit) (config .branching) (config .budget) 0 (start rule)
+  MeetsSpent = Spent (config .mode) (partsOf rule) (madeBy rule) (lostBy rule) (config .limit) (config .branching) (config .budget) 0 (start rule)
+
+  -- it comes to an oversize group that has no fewer, with a split left, in the strict mode, and the group's k-means leaves a row unplaced
+  abbrev pub MeetsUnplaced : Type 0
+  MeetsUnplaced = Barred (config .mode) (partsOf rule) (madeBy rule) (lostBy rule) (config .limit) (config .branching) (config .budget) 0 (start rule)
 
   -- it comes to where no group waits
   abbrev pub MeetsEnd : Type 0
-  MeetsEnd = Done (partsOf rule) (madeBy rule) (config .limit) (config .branching) (config .budget) 0 (start rule)
+  MeetsEnd = Done (config .mode) (partsOf rule) (madeBy rule) (lostBy rule) (config .limit) (config .branching) (config .budget) 0 (start rule)
 
   abbrev tests : List Bool
   tests = ranges ∷ slices ∷ true ∷ draws ∷ []
 
   -- ---- the call by its refusal
-  call-passed : refusal ≡ 0 → call ≡ grouping rule (config .limit) (config .budget)
+  call-passed : refusal ≡ 0 → call ≡ grouping (config .mode) rule (config .limit) (config .budget)
   unfolding groupingCall unless
   call-passed e = rw e
 
@@ -102,9 +115,10 @@ module _ (rows dim : ℕ) (config : GroupingConfig) (drawn : List ℕ) (values :
   early number h c = go refusal refl
     where
       go : (n : ℕ) → refusal ≡ n → refusal ≡ number
-      go zero e = elim (only-six-or-seven (partsOf rule) (madeBy rule) (config .limit) (config .branching) (lostBy rule) (config .budget) 0 number (start rule) (sym (call-passed e) ∙ c)) [
+      go zero e = elim (only-six-seven-or-nine (config .mode) (partsOf rule) (madeBy rule) (lostBy rule) (config .limit) (config .branching) (config .budget) 0 number (start rule) (sym (call-passed e) ∙ c)) [
         | inl z ↦ absurd (omega arith)
-        | inr z ↦ absurd (omega arith)
+        | inr (inl z) ↦ absurd (omega arith)
+        | inr (inr z) ↦ absurd (omega arith)
       ]
       go (suc n) e = let d : _≡_ {A = Answer Groups} (refused (suc n)) (refused number) = sym (call-refused n e) ∙ c in e ∙ cc
 
@@ -146,44 +160,51 @@ module _ (rows dim : ℕ) (config : GroupingConfig) (drawn : List ℕ) (values :
   -- Refused by 6 exactly when it comes to an oversize group that has fewer rows than branching.
   pub refused-six : (call ≡ refused 6) ↔ (Passed × MeetsSmall)
   refused-six = (
-    (λ c. let e = late 6 (omega arith) c in (e, six-only (partsOf rule) (madeBy rule) (config .limit) (config .branching) (lostBy rule) (config .budget) 0 (start rule) (sym (call-passed e) ∙ c))),
-    (λ t. call-passed (t .0) ∙ six-when (partsOf rule) (madeBy rule) (config .limit) (config .branching) (lostBy rule) (config .budget) 0 (start rule) (t .1)),
+    (λ c. let e = late 6 (omega arith) c in (e, six-only (config .mode) (partsOf rule) (madeBy rule) (lostBy rule) (config .limit) (config .branching) (config .budget) 0 (start rule) (sym (call-passed e) ∙ c))),
+    (λ t. call-passed (t .0) ∙ six-when (config .mode) (partsOf rule) (madeBy rule) (lostBy rule) (config .limit) (config .branching) (config .budget) 0 (start rule) (t .1)),
   )
 
   -- Refused by 7 exactly when it comes to an oversize group that has no fewer, and the splits done equal the budget.
   pub refused-seven : (call ≡ refused 7) ↔ (Passed × MeetsSpent)
   refused-seven = (
-    (λ c. let e = late 7 (omega arith) c in (e, seven-only (partsOf rule) (madeBy rule) (config .limit) (config .branching) (lostBy rule) (config .budget) 0 (start rule) (sym (call-passed e) ∙ c))),
-    (λ t. call-passed (t .0) ∙ seven-when (partsOf rule) (madeBy rule) (config .limit) (config .branching) (lostBy rule) (config .budget) 0 (start rule) (t .1)),
+    (λ c. let e = late 7 (omega arith) c in (e, seven-only (config .mode) (partsOf rule) (madeBy rule) (lostBy rule) (config .limit) (config .branching) (config .budget) 0 (start rule) (sym (call-passed e) ∙ c))),
+    (λ t. call-passed (t .0) ∙ seven-when (config .mode) (partsOf rule) (madeBy rule) (lostBy rule) (config .limit) (config .branching) (config .budget) 0 (start rule) (t .1)),
+  )
+
+  -- Refused by 9 exactly when, in the strict mode, it comes to an oversize group that has no fewer, with a split left, and the group's k-means leaves a row unplaced.
+  pub refused-nine : (call ≡ refused 9) ↔ (Passed × MeetsUnplaced)
+  refused-nine = (
+    (λ c. let e = late 9 (omega arith) c in (e, nine-only (config .mode) (partsOf rule) (madeBy rule) (lostBy rule) (config .limit) (config .branching) (config .budget) 0 (start rule) (sym (call-passed e) ∙ c))),
+    (λ t. call-passed (t .0) ∙ nine-when (config .mode) (partsOf rule) (madeBy rule) (lostBy rule) (config .limit) (config .branching) (config .budget) 0 (start rule) (t .1)),
   )
 
   -- Accepted exactly when it comes to where no group waits.
   pub accepted-exactly : Passes call ↔ (Passed × MeetsEnd)
   accepted-exactly = (
     (λ p. to refusal refl p),
-    (λ t. rw (call-passed (t .0)) (accepted-when (partsOf rule) (madeBy rule) (config .limit) (config .branching) (lostBy rule) (config .budget) 0 (start rule) (t .1))),
+    (λ t. rw (call-passed (t .0)) (accepted-when (config .mode) (partsOf rule) (madeBy rule) (lostBy rule) (config .limit) (config .branching) (config .budget) 0 (start rule) (t .1))),
   )
     where
-      done : (a : Answer Groups) → grouping rule (config .limit) (config .budget) ≡ a → Passes a → MeetsEnd
-      done (accepted g) e p = accepted-only (partsOf rule) (madeBy rule) (config .limit) (config .branching) (lostBy rule) (config .budget) 0 (start rule) g e
+      done : (a : Answer Groups) → grouping (config .mode) rule (config .limit) (config .budget) ≡ a → Passes a → MeetsEnd
+      done (accepted g) e p = accepted-only (config .mode) (partsOf rule) (madeBy rule) (lostBy rule) (config .limit) (config .branching) (config .budget) 0 (start rule) g e
       done (refused number) e p = absurd p
 
       to : (n : ℕ) → refusal ≡ n → Passes call → Passed × MeetsEnd
-      to zero e p = (e, done (grouping rule (config .limit) (config .budget)) refl (rw (call-passed e) at p))
+      to zero e p = (e, done (grouping (config .mode) rule (config .limit) (config .budget)) refl (rw (call-passed e) at p))
       to (suc n) e p = absurd (rw (call-refused n e) at p)
 
   -- it comes there after s splits
   abbrev pub EndsAfter : ℕ → Type 0
-  EndsAfter s = Ends (partsOf rule) (madeBy rule) (config .limit) (config .branching) (config .budget) 0 (start rule) s
+  EndsAfter s = Ends (config .mode) (partsOf rule) (madeBy rule) (lostBy rule) (config .limit) (config .branching) (config .budget) 0 (start rule) s
 
   -- Accepted with s splits exactly when it comes to where no group waits after s of them.
   pub accepted-splits : (s : ℕ) → ((g : Groups) × ((call ≡ accepted g) × (g .splits ≡ s))) ↔ (Passed × EndsAfter s)
   accepted-splits s = (
     (λ t.
         let e = accepted-exactly .0 (rw (t .1 .0) tt) .0 in
-        (e, rw (t .1 .1) at (splits-only (partsOf rule) (madeBy rule) (config .limit) (config .branching) (lostBy rule) (config .budget) 0 (start rule) (t .0) (sym (call-passed e) ∙ t .1 .0)))),
+        (e, rw (t .1 .1) at (splits-only (config .mode) (partsOf rule) (madeBy rule) (lostBy rule) (config .limit) (config .branching) (config .budget) 0 (start rule) (t .0) (sym (call-passed e) ∙ t .1 .0)))),
     (λ t.
-        let w = splits-when (partsOf rule) (madeBy rule) (config .limit) (config .branching) (lostBy rule) (config .budget) 0 (start rule) s (t .1) in
+        let w = splits-when (config .mode) (partsOf rule) (madeBy rule) (lostBy rule) (config .limit) (config .branching) (config .budget) 0 (start rule) s (t .1) in
         (w .0, (call-passed (t .0) ∙ w .1 .0, w .1 .1))),
   )
 
@@ -193,9 +214,10 @@ module _ (rows dim : ℕ) (config : GroupingConfig) (drawn : List ℕ) (values :
   refused-otherwise number c = go refusal refl
     where
       late-number : refusal ≡ 0 → Number number
-      late-number e = elim (only-six-or-seven (partsOf rule) (madeBy rule) (config .limit) (config .branching) (lostBy rule) (config .budget) 0 number (start rule) (sym (call-passed e) ∙ c)) [
+      late-number e = elim (only-six-seven-or-nine (config .mode) (partsOf rule) (madeBy rule) (lostBy rule) (config .limit) (config .branching) (config .budget) 0 number (start rule) (sym (call-passed e) ∙ c)) [
         | inl z ↦ rw z small
-        | inr z ↦ rw z spent
+        | inr (inl z) ↦ rw z spent
+        | inr (inr z) ↦ rw z unplaced
       ]
 
       is : (n : ℕ) → refusal ≡ suc n → number ≡ suc n
@@ -227,14 +249,14 @@ module _ (rows dim : ℕ) (config : GroupingConfig) (drawn : List ℕ) (values :
   call-listing g c =
       let e = accepted-passed g c in
       let r = passed-ranged e in
-      let a : groupFrom (partsOf rule) (madeBy rule) (lostBy rule) (config .limit) (config .branching) (config .budget) 0 (waits (upTo rows) []) ≡ accepted g = rw sized at (sym (call-passed e) ∙ c) in
-      accepted-listing (partsOf rule) (madeBy rule) (config .limit) (config .branching) (lostBy rule) 4096 (λ n g k l. parts-kept rule n g (r .some) k l .0) (config .budget) rows g (r .few-rows) a
+      let a : groupFrom (config .mode) (partsOf rule) (madeBy rule) (lostBy rule) (config .limit) (config .branching) (config .budget) 0 (waits (upTo rows) []) ≡ accepted g = rw sized at (sym (call-passed e) ∙ c) in
+      accepted-listing (config .mode) (partsOf rule) (madeBy rule) (lostBy rule) (config .limit) (config .branching) 4096 (λ n g k l. parts-kept rule n g (r .some) k l .0) (config .budget) rows g (r .few-rows) a
 
   -- The unplaced rows of an accepted call are those of the splits that it makes until no group waits, added up.
-  pub call-summed : {left′ n′ : ℕ} (c : Comes (partsOf rule) (madeBy rule) (config .limit) (config .branching) (config .budget) 0 (start rule) left′ n′ []) (g : Groups)
-      → call ≡ accepted g → g .unplaced ≡ lostOn (partsOf rule) (madeBy rule) (config .limit) (config .branching) (lostBy rule) c
+  pub call-summed : {left′ n′ : ℕ} (c : Comes (config .mode) (partsOf rule) (madeBy rule) (lostBy rule) (config .limit) (config .branching) (config .budget) 0 (start rule) left′ n′ []) (g : Groups)
+      → call ≡ accepted g → g .unplaced ≡ lostOn (config .mode) (partsOf rule) (madeBy rule) (lostBy rule) (config .limit) (config .branching) c
   call-summed c g a =
-      unplaced-summed (partsOf rule) (madeBy rule) (config .limit) (config .branching) (lostBy rule) c g (sym (call-passed (accepted-passed g a)) ∙ a)
+      unplaced-summed (config .mode) (partsOf rule) (madeBy rule) (lostBy rule) (config .limit) (config .branching) c g (sym (call-passed (accepted-passed g a)) ∙ a)
 
   -- The unplaced rows of an accepted call are at most its splits times its rows: with at most 8,192 splits of 4,096 rows their count never wraps at 32 bits.
   pub call-unplaced : (g : Groups) → call ≡ accepted g → (g .unplaced ≤ g .splits * rows) × (g .unplaced ≤ 33554432)
@@ -242,33 +264,25 @@ module _ (rows dim : ℕ) (config : GroupingConfig) (drawn : List ℕ) (values :
       let e = accepted-passed g c in
       let r = passed-ranged e in
       let a = sym (call-passed e) ∙ c in
-      let b = budget-accepted (partsOf rule) (madeBy rule) (config .limit) (config .branching) (lostBy rule) (config .budget) 0 (start rule) g a .0 in
+      let b = budget-accepted (config .mode) (partsOf rule) (madeBy rule) (lostBy rule) (config .limit) (config .branching) (config .budget) 0 (start rule) g a .0 in
       let s : g .splits ≤ 8192 = omega (arith, b, r .few-splits) in
       let most : g .unplaced ≤ g .splits * rows
-      = accepted-unplaced (partsOf rule) (madeBy rule) (config .limit) (config .branching) (lostBy rule) rows
+      = accepted-unplaced (config .mode) (partsOf rule) (madeBy rule) (lostBy rule) (config .limit) (config .branching) rows
       (λ n g k l. parts-kept rule n g (r .some) k (omega (arith, l, r .few-rows)) .0) (lost-few rule)
       (config .budget) 0 (start rule) g (omega (arith, one-long (length (rule .rows)), sized)) a in
       (most, omega (arith, most, mul-le-mul {n₂ = 8192} {m₂ = 4096} s (r .few-rows)))
 
-  -- the call with no row counted, as it was before
-  abbrev pub uncounted : Answer Groups
-  uncounted = unless refusal (groupFrom (partsOf rule) (madeBy rule) (λ n g. 0) (config .limit) (config .branching) (config .budget) 0 (start rule))
-
-  -- Counting changes no group, no number of splits and no refusal of any call.
-  pub call-aside : onAccepted listedOf call ≡ onAccepted listedOf uncounted
-  unfolding groupingCall unless onAccepted
-  call-aside = go refusal
-    where
-      go : (number : ℕ) → onAccepted listedOf (unless number (grouping rule (config .limit) (config .budget)))
-          ≡ onAccepted listedOf (unless number (groupFrom (partsOf rule) (madeBy rule) (λ n g. 0) (config .limit) (config .branching) (config .budget) 0 (start rule)))
-      go zero = lost-aside (partsOf rule) (madeBy rule) (config .limit) (config .branching) (lostBy rule) (λ n g. 0) (config .budget) 0 (start rule)
-      go (suc number) = refl
+  -- In the strict mode an accepted call leaves no row unplaced.
+  pub call-placed : config .mode ≡ Strict → (g : Groups) → call ≡ accepted g → g .unplaced ≡ 0
+  call-placed m g c =
+      strict-accepted (partsOf rule) (madeBy rule) (lostBy rule) (config .limit) (config .branching) (config .budget) 0 (start rule) g .0
+      (rw m at (sym (call-passed (accepted-passed g c)) ∙ c)) .1
 
   -- Every split of a call that none of 1 to 4 refuses keeps what is promised of a split, whether the call is accepted or not.
-  pub call-splits : Passed → (n : ℕ) (g : List ℕ) → Splits rule (config .limit) (config .budget) n g → SplitPromise rule n g
+  pub call-splits : Passed → (n : ℕ) (g : List ℕ) → Splits (config .mode) rule (config .limit) (config .budget) n g → SplitPromise rule n g
   call-splits e n g s =
       let r = passed-ranged e in
-      each-split rule (config .limit) (config .budget) n g (r .some) (rw sized (r .few-rows)) s
+      each-split (config .mode) rule (config .limit) (config .budget) n g (r .some) (rw sized (r .few-rows)) s
 
 -- ---- the budget: calls alike in all else
 module _ (rows dim : ℕ) (config : GroupingConfig) (drawn : List ℕ) (values : List Float) (lent : List ℕ) where
@@ -294,7 +308,7 @@ module _ (rows dim : ℕ) (config : GroupingConfig) (drawn : List ℕ) (values :
       let e = accepted-passed rows dim (withBudget config budget) drawn values lent g a in
       let r = passed-ranged rows dim (withBudget config budget) drawn values lent e in
       let rule = rule rows dim config drawn values lent in
-      let s = budget-accepted (partsOf rule) (madeBy rule) (config .limit) (config .branching) (lostBy rule) budget 0 (start rule) g (sym (call-passed rows dim (withBudget config budget) drawn values lent e) ∙ a) in
+      let s = budget-accepted (config .mode) (partsOf rule) (madeBy rule) (lostBy rule) (config .limit) (config .branching) budget 0 (start rule) g (sym (call-passed rows dim (withBudget config budget) drawn values lent e) ∙ a) in
       record {
         within = s .0;
         same = λ c h k. call-passed rows dim (withBudget config c) drawn values lent (budget-passed budget c k e) ∙ s .1 .0 c h;
@@ -307,4 +321,75 @@ module _ (rows dim : ℕ) (config : GroupingConfig) (drawn : List ℕ) (values :
       let e = refused-six rows dim (withBudget config budget) drawn values lent .0 a .0 in
       let rule = rule rows dim config drawn values lent in
       call-passed rows dim (withBudget config c) drawn values lent (budget-passed budget c k e)
-      ∙ budget-six (partsOf rule) (madeBy rule) (config .limit) (config .branching) (lostBy rule) budget 0 (start rule) (sym (call-passed rows dim (withBudget config budget) drawn values lent e) ∙ a) c h
+      ∙ budget-six (config .mode) (partsOf rule) (madeBy rule) (lostBy rule) (config .limit) (config .branching) budget 0 (start rule) (sym (call-passed rows dim (withBudget config budget) drawn values lent e) ∙ a) c h
+
+  -- Refused by 9: by 9 under every larger budget up to 8,192.
+  pub call-budget-nine : (budget : ℕ) → under budget ≡ refused 9 → (c : ℕ) → budget ≤ c → c ≤ 8192 → under c ≡ refused 9
+  call-budget-nine budget a c h k =
+      let e = refused-nine rows dim (withBudget config budget) drawn values lent .0 a .0 in
+      let rule = rule rows dim config drawn values lent in
+      call-passed rows dim (withBudget config c) drawn values lent (budget-passed budget c k e)
+      ∙ budget-nine (config .mode) (partsOf rule) (madeBy rule) (lostBy rule) (config .limit) (config .branching) budget 0 (start rule) (sym (call-passed rows dim (withBudget config budget) drawn values lent e) ∙ a) c h
+
+-- ---- the mode: calls alike in all else
+module _ (rows dim : ℕ) (config : GroupingConfig) (drawn : List ℕ) (values : List Float) (lent : List ℕ) where
+  -- the call in this mode
+  abbrev pub way : Mode → Answer Groups
+  way mode = call rows dim (inMode mode config) drawn values lent
+
+  abbrev ruled : Rule
+  ruled = rule rows dim config drawn values lent
+
+  abbrev tested : ℕ
+  tested = refusal rows dim config drawn values lent
+
+  -- its mode changes nothing of the tests
+  way-is : (mode : Mode) → way mode ≡ unless tested (grouping mode ruled (config .limit) (config .budget))
+  unfolding groupingCall groupingRefusal rangesFit
+  way-is mode = refl
+
+  -- The new way is accepted exactly when the old way is and leaves no row unplaced, and gives the same.
+  pub call-strict : (g : Groups) → (way Strict ≡ accepted g) ↔ ((way OldWay ≡ accepted g) × (g .unplaced ≡ 0))
+  unfolding unless
+  call-strict g = rw (way-is Strict, way-is OldWay) (go tested)
+    where
+      go : (number : ℕ) → (unless number (grouping Strict ruled (config .limit) (config .budget)) ≡ accepted g)
+          ↔ ((unless number (grouping OldWay ruled (config .limit) (config .budget)) ≡ accepted g) × (g .unplaced ≡ 0))
+      go zero = strict-accepted (partsOf ruled) (madeBy ruled) (lostBy ruled) (config .limit) (config .branching) (config .budget) 0 (start ruled) g
+      go (suc number) = ((λ e. let z : _≡_ {A = ℕ} 0 1 = cc in absurd (omega arith)), (λ t. let e = t .0 in let z : _≡_ {A = ℕ} 0 1 = cc in absurd (omega arith)))
+
+  -- The new way gives what the old way gives, its refusals too, or is refused by 9.
+  pub call-either : (way Strict ≡ way OldWay) ⊎ (way Strict ≡ refused 9)
+  unfolding unless
+  call-either = rw (way-is Strict, way-is OldWay) (go tested)
+    where
+      go : (number : ℕ) → (unless number (grouping Strict ruled (config .limit) (config .budget)) ≡ unless number (grouping OldWay ruled (config .limit) (config .budget)))
+          ⊎ (unless number (grouping Strict ruled (config .limit) (config .budget)) ≡ refused 9)
+      go zero = strict-or-nine (partsOf ruled) (madeBy ruled) (lostBy ruled) (config .limit) (config .branching) (config .budget) 0 (start ruled)
+      go (suc number) = inl refl
+
+  -- The old way is the call of before, with its count.
+  pub call-old : way OldWay ≡ unless tested (groupBefore (partsOf ruled) (madeBy ruled) (lostBy ruled) (config .limit) (config .branching) (config .budget) 0 (start ruled))
+  call-old = way-is OldWay ∙ ap (unless tested) (old-before (partsOf ruled) (madeBy ruled) (lostBy ruled) (config .limit) (config .branching) (config .budget) 0 (start ruled))
+
+  -- The old way is never refused by 9.
+  pub call-old-nine : way OldWay ≡ refused 9 → ⊥
+  call-old-nine e =
+      let p = late rows dim (inMode OldWay config) drawn values lent 9 (omega arith) e in
+      old-never-nine (partsOf ruled) (madeBy ruled) (lostBy ruled) (config .limit) (config .branching) (config .budget) 0 (start ruled) (sym (call-passed rows dim (inMode OldWay config) drawn values lent p) ∙ e)
+
+  -- the call of before with no row counted
+  abbrev pub uncounted : Answer Groups
+  uncounted = unless tested (groupBefore (partsOf ruled) (madeBy ruled) (λ n g. 0) (config .limit) (config .branching) (config .budget) 0 (start ruled))
+
+  -- In the old way counting changes no group, no number of splits and no refusal of any call.
+  pub call-aside : onAccepted listedOf (way OldWay) ≡ onAccepted listedOf uncounted
+  unfolding unless onAccepted
+  call-aside = ap (onAccepted listedOf) (way-is OldWay) ∙ go tested
+    where
+      go : (number : ℕ) → onAccepted listedOf (unless number (grouping OldWay ruled (config .limit) (config .budget)))
+          ≡ onAccepted listedOf (unless number (groupBefore (partsOf ruled) (madeBy ruled) (λ n g. 0) (config .limit) (config .branching) (config .budget) 0 (start ruled)))
+      go zero =
+          lost-aside (partsOf ruled) (madeBy ruled) (lostBy ruled) (config .limit) (config .branching) (λ n g. 0) (config .budget) 0 (start ruled)
+          ∙ ap (onAccepted listedOf) (old-before (partsOf ruled) (madeBy ruled) (λ n g. 0) (config .limit) (config .branching) (config .budget) 0 (start ruled))
+      go (suc number) = refl

@@ -13,6 +13,7 @@ use Rattle.sums.specs.Refusals.{Answer, accepted, refused, onAccepted, cellsOf,
 use Rattle.sums.proofs.Weighs.{countOf}
 use Rattle.sums.proofs.Pairs.{all-at}
 use Rattle.sums.proofs.Refusing.{same-cons, padded-all, padded-none, padded-length, padded-at, padded-past, cleared-same}
+use Rattle.labels.specs.declared.mode.Mode.the-variants.{Strict}
 use Rattle.grouping.specs.declared.config.GroupingConfig.{GroupingConfig}
 use Rattle.grouping.specs.declared.waiting.GroupingAnswer.{GroupingAnswer}
 use Rattle.grouping.specs.declared.waiting.GroupingAnswer.the-variants.{Accepted, Refused}
@@ -22,7 +23,7 @@ use Rattle.grouping.specs.Call.{lengthsFit, Gives}
 use Rattle.grouping.proofs.Stretches.{flatten-part, flatMap-part, flatMap-length, padded-is, ends-length, start-is, end-is}
 use Rattle.grouping.proofs.Averages.{mean-length}
 use Rattle.grouping.proofs.GroupPromises.{Sized, Listing, some-group}
-use Rattle.grouping.proofs.CallPromises.{call, passed-exactly, accepted-passed, EndsAfter, accepted-splits, call-listing, call-unplaced}
+use Rattle.grouping.proofs.CallPromises.{call, passed-exactly, accepted-passed, EndsAfter, accepted-splits, call-listing, call-unplaced, call-placed}
 
 -- group i as a caller reads it: the stretch of the row order from the end before it, 0 for the first, up to its own end
 abbrev pub groupAt : List ℕ → List ℕ → ℕ → List ℕ
@@ -227,6 +228,13 @@ module _ (rows dim : ℕ) (config : GroupingConfig) (drawn : List ℕ) (values :
   told-unplaced groups splits unplaced order ends means given =
       let b = behind groups splits unplaced order ends means given in
       rw (b .done, b .lost) at (call-unplaced rows dim config drawn values (orderCells ∷ endCells ∷ meanCells ∷ work) (b .g) (b .is))
+
+  -- In the strict mode it is told 0 unplaced rows.
+  pub strict-told : config .mode ≡ Strict → (groups splits unplaced : ℕ) (order ends : List ℕ) (means : List Float) → Result (Accepted groups splits unplaced) order ends means
+      → unplaced ≡ 0
+  strict-told m groups splits unplaced order ends means given =
+      let b = behind groups splits unplaced order ends means given in
+      sym (b .lost) ∙ call-placed rows dim config drawn values (orderCells ∷ endCells ∷ meanCells ∷ work) m (b .g) (b .is)
 
 -- ---- the answer and every cell follow from the call alone
 told-once : (r r′ : GroupingAnswer) → told r ≡ told r′ → r ≡ r′

@@ -17,6 +17,8 @@ pub mod Averages
 pub mod Steps
 pub mod Splits
 pub mod GroupPromises
+pub mod Before
+pub mod ModePromises
 pub mod SplitPromises
 pub mod States
 pub mod Acceptances

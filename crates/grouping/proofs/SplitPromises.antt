@@ -15,11 +15,12 @@ use Rattle.sums.proofs.Tables.{up-length}
 use Rattle.sums.proofs.Weighs.{weigh, one, countOf, Same, weigh-append, weigh-length}
 use Rattle.sums.proofs.Counts.{Distinct, count-up, count-below}
 use Rattle.sums.proofs.Picks.{below-up}
+use Rattle.labels.specs.declared.mode.Mode.{Mode}
 use Rattle.kmeans.specs.KMeans.{Result, forGrouping}
 use Rattle.kmeans.proofs.Promises.{labels-below}
 use Rattle.grouping.specs.Parts.{gathered, sizesOf, flat}
 use Rattle.grouping.specs.Balance.{share, allowed, moves, toward}
-use Rattle.grouping.specs.Groups.{Rule, balanceIf, splitRun, partsOf, madeBy, waits}
+use Rattle.grouping.specs.Groups.{Rule, balanceIf, splitRun, partsOf, madeBy, lostBy, waits}
 use Rattle.grouping.proofs.Fair.{overBy, shortBy}
 use Rattle.grouping.proofs.Changed.{changed}
 use Rattle.grouping.proofs.BalancePromises.{Promise, balance-promise, gathered-same, gathered-parts}
@@ -83,11 +84,11 @@ parts-kept rule n g some enough few = go (lt zero32 (rule .weight)) refl
 abbrev pub start : Rule → List (List ℕ)
 start rule = waits (upTo (length (rule .rows))) []
 
--- A grouping splits g after n draws: it comes to g, oversize and with at least as many rows as branching, with a split left.
-pub record Splits (rule : Rule) (limit budget n : ℕ) (g : List ℕ) : Type 0 where
+-- A grouping splits g after n draws, or is refused by 9 for it: it comes to g, oversize and with at least as many rows as branching, with a split left.
+pub record Splits (mode : Mode) (rule : Rule) (limit budget n : ℕ) (g : List ℕ) : Type 0 where
   pub left : ℕ
   pub waiting : List (List ℕ)
-  pub comes : Comes (partsOf rule) (madeBy rule) limit (rule .branching) budget 0 (start rule) (suc left) n (g ∷ waiting)
+  pub comes : Comes mode (partsOf rule) (madeBy rule) (lostBy rule) limit (rule .branching) budget 0 (start rule) (suc left) n (g ∷ waiting)
   pub oversize : limit < length g
   pub enough : rule .branching ≤ length g
 
@@ -108,20 +109,20 @@ pub record SplitPromise (rule : Rule) (n : ℕ) (g : List ℕ) : Type 0 where
       ≡ min 10 (min (overBy (allowedOf rule g) (sizesOf (labelled rule n g))) (shortBy (shareOf rule g) (sizesOf (labelled rule n g))))
 
 -- The group split weighs no more than the rows of the call.
-split-within : (rule : Rule) (limit budget n : ℕ) (g : List ℕ) → 0 < rule .branching → length (rule .rows) ≤ 4096 → Splits rule limit budget n g
+split-within : (mode : Mode) (rule : Rule) (limit budget n : ℕ) (g : List ℕ) → 0 < rule .branching → length (rule .rows) ≤ 4096 → Splits mode rule limit budget n g
     → (f : ℕ → ℕ) → weigh f g ≤ weigh f (upTo (length (rule .rows)))
 unfolding flatten
-split-within rule limit budget n g some few s f =
+split-within mode rule limit budget n g some few s f =
     let first : flatten (start rule) ≡ upTo (length (rule .rows)) = one-flat (upTo (length (rule .rows))) in
     let b : length (flatten (start rule)) ≤ 4096 = rw (one-long (length (rule .rows))) few in
-    let w = comes-within (partsOf rule) (madeBy rule) limit (rule .branching) 4096 (λ n g k l. parts-kept rule n g some k l .0) (s .comes) b f in
+    let w = comes-within mode (partsOf rule) (madeBy rule) (lostBy rule) limit (rule .branching) 4096 (λ n g k l. parts-kept rule n g some k l .0) (s .comes) b f in
     omega (arith, weigh-append f g (flatten (s .waiting)), ap (weigh f) first, w)
 
 -- Every split of a grouping, accepted or refused, keeps the promise.
-pub each-split : (rule : Rule) (limit budget n : ℕ) (g : List ℕ) → 0 < rule .branching → length (rule .rows) ≤ 4096 → Splits rule limit budget n g → SplitPromise rule n g
-each-split rule limit budget n g some few s =
+pub each-split : (mode : Mode) (rule : Rule) (limit budget n : ℕ) (g : List ℕ) → 0 < rule .branching → length (rule .rows) ≤ 4096 → Splits mode rule limit budget n g → SplitPromise rule n g
+each-split mode rule limit budget n g some few s =
     let rows = length (rule .rows) in
-    let within = split-within rule limit budget n g some few s in
+    let within = split-within mode rule limit budget n g some few s in
     let l : length g ≤ rows = omega (arith, within (λ _. 1), weigh-length g, weigh-length (upTo rows), up-length rows) in
     let k = parts-kept rule n g some (s .enough) (omega arith) in
     record {

@@ -1,5 +1,5 @@
 -- One split, on lists: k-means, the rows gathered and balanced put together. Assumes nothing.
-use mathlib.Core.Path.{_≡_, sym, ap}
+use mathlib.Core.Path.{_≡_, sym, ap, _∙_}
 use mathlib.Core.Bool.{true, false}
 use mathlib.Core.List.{List, []}
 use Prim.Native.Nat.{ℕ, _+_, _*_, _≤_, _<_}
@@ -11,6 +11,8 @@ use Rattle.sums.specs.Sums.{zero32}
 use Rattle.sums.specs.Cells.{Below}
 use Rattle.sums.proofs.Passes.{cursor-own}
 use Rattle.sums.specs.declared.draws.Cursor.{Cursor}
+use Rattle.labels.specs.declared.mode.Mode.{Mode}
+use Rattle.labels.specs.Mode.{unplacedRefusal}
 use Rattle.kmeans.specs.declared.config.KMeansConfig.{KMeansConfig}
 use Rattle.kmeans.specs.declared.restart.Kept.{Kept}
 use Rattle.kmeans.specs.Inside.{Limits}
@@ -81,13 +83,14 @@ pub split-space : {dim k rows n labels gathered centroids training : ℕ} (confi
     × ((gathered ≡ labels * dim) × ((centroids ≡ k * dim) × (training ≡ labels * dim)))
 split-space config l few enough e g c t f = rw (e, f) (((l .0, (l .1 .0, few)), (enough, (omega arith, omega arith))), (g, (c, t)))
 
-pub split-done : {draws : List ℕ} {k : ℕ} (dim : ℕ) {group labels : List ℕ} {cursor : Cursor} {kept : Kept} {centroids : List Row} (table : List Row) (weight : Float) {part sizes : List ℕ}
+pub split-done : {draws : List ℕ} {k : ℕ} (mode : Mode) (dim : ℕ) {group labels : List ℕ} {cursor : Cursor} {kept : Kept} {centroids : List Row} (table : List Row) (weight : Float) {part sizes : List ℕ} (number : ℕ)
     → cursor .at < length draws → cursor .pass < 4294967296 → length group ≤ 4096
     → Ran draws forGrouping k dim (rowsAt table group) cursor kept labels centroids
-    → Laid (balanceIf table centroids (share (length group) k) weight (gathered k group labels)) part sizes
-    → Split (ruleOf draws dim table k weight) group cursor (record { cursor = kept .cursor; unplaced = kept .unplaced }) part sizes
+    → number ≡ unplacedRefusal mode (kept .unplaced)
+    → (number ≡ 0 → Laid (balanceIf table centroids (share (length group) k) weight (gathered k group labels)) part sizes)
+    → Split mode (ruleOf draws dim table k weight) group cursor (record { number = number; cursor = kept .cursor; unplaced = kept .unplaced }) part sizes
 unfolding partsOf madeBy lostBy
-split-done {draws} {k} dim {group} {cursor = cursor} {kept = kept} table weight inside bits few ran b =
+split-done {draws} {k} mode dim {group} {cursor = cursor} {kept = kept} table weight number inside bits few ran refused b =
     let rule = ruleOf draws dim table k weight in
     let n = cursor .at + cursor .pass * length draws in
     let lost : kept .unplaced ≡ lostBy rule n group = ap (λ (r : Result). r .unplaced) (ran .steps n (cursor-own draws cursor inside bits) .0) in
@@ -96,5 +99,6 @@ split-done {draws} {k} dim {group} {cursor = cursor} {kept = kept} table weight 
       few = omega (arith, lost, lost-few rule n group);
       steps = λ n p.
           let w = ran .steps n p in
-          (rw (← ap (λ (r : Result). r .labels) (w .0), ← ap (λ (r : Result). r .centroids) (w .0)) b, (w .1, ap (λ (r : Result). r .unplaced) (w .0)));
+          let u : kept .unplaced ≡ lostBy rule n group = ap (λ (r : Result). r .unplaced) (w .0) in
+          ((refused ∙ ap (unplacedRefusal mode) u, λ e. rw (← ap (λ (r : Result). r .labels) (w .0), ← ap (λ (r : Result). r .centroids) (w .0)) (b e)), (w .1, u));
     }

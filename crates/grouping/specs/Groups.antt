@@ -8,7 +8,9 @@ use lib.Ieee.{Float, binary32, div, lt}
 use Rattle.sums.specs.Tables.{upTo}
 use Rattle.sums.specs.Rows.{Row, rowsAt}
 use Rattle.sums.specs.Sums.{zero32, count32, addRow, zeroRow}
-use Rattle.sums.specs.Refusals.{Answer, accepted, refused, onAccepted}
+use Rattle.sums.specs.Refusals.{Answer, accepted, refused, unless, onAccepted}
+use Rattle.labels.specs.declared.mode.Mode.{Mode}
+use Rattle.labels.specs.Mode.{unplacedRefusal}
 use Rattle.kmeans.specs.KMeans.{Run, kmeans, forGrouping}
 use Rattle.grouping.specs.Parts.{gathered}
 use Rattle.grouping.specs.Balance.{share, balance}
@@ -74,8 +76,9 @@ back limit [] = []
 back limit (g ∷ waiting) = cond (leb (length g) limit) (back limit waiting) (g ∷ waiting)
 
 -- `parts n g` are the parts of the group g after n draws, `made n g` the draws made then, and `lost n g` its unplaced rows
-module _ (parts : ℕ → List ℕ → List (List ℕ)) (made lost : ℕ → List ℕ → ℕ) (limit branching : ℕ) where
-  -- with so many splits left: nothing waits, or the first waiting group is oversize and is refused by 6 or 7 or split
+module _ (mode : Mode) (parts : ℕ → List ℕ → List (List ℕ)) (made lost : ℕ → List ℕ → ℕ) (limit branching : ℕ) where
+  -- with so many splits left: nothing waits, or the first waiting group is oversize and is refused by 6 or 7, by 9 where its k-means left rows unplaced and
+  -- the mode is strict (02 (iii)), or split
   unfoldable pub splitFrom : ℕ → ℕ → List (List ℕ) → Answer Groups
   splitFrom zero n [] = accepted (record { groups = []; splits = 0; unplaced = 0 })
   splitFrom zero n (g ∷ waiting) = cond (ltb (length g) branching) (refused 6) (refused 7)
@@ -83,15 +86,16 @@ module _ (parts : ℕ → List ℕ → List (List ℕ)) (made lost : ℕ → Lis
   splitFrom (suc left) n (g ∷ waiting) =
       let then = pushed (parts n g) waiting in
       let rest = splitFrom left (made n g) (back limit then) in
-      cond (ltb (length g) branching) (refused 6) (after (front limit then) 1 (lost n g) rest)
+      cond (ltb (length g) branching) (refused 6) (unless (unplacedRefusal mode (lost n g)) (after (front limit then) 1 (lost n g) rest))
 
   -- the groups that are small enough are listed first
   unfoldable pub groupFrom : ℕ → ℕ → List (List ℕ) → Answer Groups
   groupFrom left n waiting = after (front limit waiting) 0 0 (splitFrom left n (back limit waiting))
 
 -- all rows wait as one group, or none where there is no row
-abbrev pub grouping : Rule → ℕ → ℕ → Answer Groups
-grouping rule limit budget = groupFrom (partsOf rule) (madeBy rule) (lostBy rule) limit (rule .branching) budget 0 (waits (upTo (length (rule .rows))) [])
+abbrev pub grouping : Mode → Rule → ℕ → ℕ → Answer Groups
+grouping mode rule limit budget =
+    groupFrom mode (partsOf rule) (madeBy rule) (lostBy rule) limit (rule .branching) budget 0 (waits (upTo (length (rule .rows))) [])
 
 -- the running totals of the group sizes, from s on
 unfoldable pub endsFrom : ℕ → List (List ℕ) → List ℕ

@@ -68,7 +68,7 @@ fn refusal(rows: u32, dim: u32, config: GroupingConfig, draws: usize, lent: Lent
     0
 }
 
-// An acceptance gets its means; after a refusal by 6 or 7 the cells that were begun are blank again.
+// An acceptance gets its means; after a refusal by 6, 7 or 9 the cells that were begun are blank again.
 fn finish(
     found: GroupingAnswer,
     values: &[f32],
@@ -125,7 +125,7 @@ fn answer(
     requires { ⌜ (now ends ≡ replicate (length (now ends)) 65535) × (now means ≡ replicate (length (now means)) zero32) ⌝ }
     ensures { λ r. ⌜ (let rows = rowsFrom dim (length (now (order .entry))) (now (values .entry)) in
         let rule = ruleOf (now (draws .entry)) dim rows (config .branching) (config .weight) in
-        Gives (grouping rule (config .limit) (config .budget)) dim rows
+        Gives (grouping (config .mode) rule (config .limit) (config .budget)) dim rows
         (length (now (order .entry))) (length (now (ends .entry))) (length (now (means .entry)))
         r (now (order .exit)) (now (ends .exit)) (now (means .exit))) ⌝ }
 {

@@ -1,4 +1,6 @@
 // The settings of a grouping (the source's HierarchicalClustering).
+use labels::mode::Mode;
+
 pub struct GroupingConfig {
     // a group of at most so many rows is finished
     pub limit: u32,
@@ -8,4 +10,6 @@ pub struct GroupingConfig {
     pub weight: f32,
     // at most so many splits
     pub budget: u32,
+    // whether unplaced rows refuse a split (02 (iii))
+    pub mode: Mode,
 }

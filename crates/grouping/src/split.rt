@@ -9,10 +9,12 @@ ghost use Rattle.grouping.specs.PartsInside.{tableOf, Laid, Parted};
 ghost use Rattle.grouping.specs.Groups.{ruleOf, balanceIf};
 ghost use Rattle.grouping.specs.Inside.{Room, Split};
 use crate::balance;
+use crate::config::GroupingConfig;
 use crate::gather;
 use kmeans::config::KMeansConfig;
 use kmeans::restart;
 use kmeans::training;
+use labels::mode;
 use sums::cells;
 use sums::draws::Cursor;
 use sums::rooms;
@@ -38,19 +40,21 @@ fn balance_if(
     }
 }
 
-// Where k-means left the draws, and how many of the group's rows it left unplaced.
+// The number that refuses the group, 0 for none; where k-means left the draws, and how many of the group's rows it left unplaced.
 pub struct Divided {
+    pub number: u32,
     pub cursor: Cursor,
     pub unplaced: u32,
 }
 
-// K-means over the group's rows in listed order, the rows gathered per label, and balancing. `part` is the group's stretch of the row
-// order: afterwards it holds the parts, the last first, and `sizes` how many rows each part has.
+// K-means over the group's rows in listed order; then, unless rows that it left unplaced refuse the group, the rows gathered per label, and
+// balancing. `part` is the group's stretch of the row order: afterwards it holds the parts, the last first, and `sizes` how many rows each
+// part has.
 pub fn split_cluster(
     values: &[f32],
     dim: usize,
     rows: usize,
-    weight: f32,
+    config: GroupingConfig,
     draws: &[u32],
     cursor: Cursor,
     part: &mut [u16],
@@ -61,8 +65,8 @@ pub fn split_cluster(
     requires { ⌜ Room dim (length (now sizes)) rows (length (now values)) (length (now gathered)) (length (now training)) ⌝ }
     requires { ⌜ (length (now sizes) ≤ length (now part)) × ((length (now part) ≤ rows)
         × (Below rows (now part) × (cursor .at < length (now draws)))) ⌝ }
-    ensures { λ r. ⌜ Split (ruleOf (now (draws .entry)) dim (rowsFrom dim rows (now (values .entry))) (length (now (sizes .entry))) weight)
-        (now (part .entry)) cursor r (now (part .exit)) (now (sizes .exit)) ⌝ }
+    ensures { λ r. ⌜ (let rule = ruleOf (now (draws .entry)) dim (rowsFrom dim rows (now (values .entry))) (length (now (sizes .entry))) (config .weight) in
+        Split (config .mode) rule (now (part .entry)) cursor r (now (part .exit)) (now (sizes .exit))) ⌝ }
 {
     let n = part.len();
     let k = sizes.len();
@@ -83,12 +87,23 @@ pub fn split_cluster(
         &mut centroids[..width],
         &mut training[..cells],
     );
+    let next = kept.cursor;
+    let unplaced = kept.unplaced;
+    let mode = config.mode;
+    let number = mode::unplaced_refusal(mode, unplaced);
+    if number != 0 {
+        return Divided {
+            number,
+            cursor: next,
+            unplaced,
+        };
+    }
     cells::copy_cells(&mut copied[..n], part);
     gather::gather(part, &copied[..n], &labels[..n], sizes);
-    balance_if(values, dim, &centroids[..width], weight, part, sizes);
-    let next = kept.cursor;
+    balance_if(values, dim, &centroids[..width], config.weight, part, sizes);
     Divided {
+        number,
         cursor: next,
-        unplaced: kept.unplaced,
+        unplaced,
     }
 }

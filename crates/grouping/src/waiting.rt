@@ -4,14 +4,16 @@ ghost use mathlib.Core.Path.{_≡_};
 ghost use mathlib.Core.List.{_++_};
 ghost use Prim.Native.Nat.{_+_, _≤_, _<_};
 ghost use lib.ListN.{length, take, replicate};
+ghost use Rattle.sums.specs.Cells.{Below};
 ghost use Rattle.sums.specs.Rows.{rowsFrom};
 ghost use Rattle.sums.specs.Tables.{upTo};
 ghost use Rattle.grouping.specs.declared.waiting.GroupingAnswer.the-variants.{Accepted};
 ghost use Rattle.grouping.specs.Groups.{ruleOf, grouping};
 ghost use Rattle.grouping.specs.PartsInside.{total};
-ghost use Rattle.grouping.specs.Inside.{Room, pushes, Grouped};
+ghost use Rattle.grouping.specs.Inside.{Room, Taken, pushes, Grouped};
 use crate::config::GroupingConfig;
 use crate::split;
+use crate::split::Divided;
 use sums::cells;
 use sums::draws::Cursor;
 use sums::numbers;
@@ -59,6 +61,54 @@ fn tell(groups: u32, splits: u32, unplaced: u32) -> GroupingAnswer
     }
 }
 
+// An oversize group is refused by 6 where it has fewer rows than there are to be parts, by 7 where the budget is spent; else it is split, or
+// refused by 9 (02 (iii)).
+fn split_or_refuse(
+    values: &[f32],
+    dim: usize,
+    rows: usize,
+    config: GroupingConfig,
+    splits: u32,
+    draws: &[u32],
+    cursor: Cursor,
+    part: &mut [u16],
+    sizes: &mut [u16],
+    gathered: &mut [f32],
+    training: &mut [f32],
+) -> Divided
+    requires { ⌜ Room dim (length (now sizes)) rows (length (now values)) (length (now gathered)) (length (now training)) ⌝ }
+    requires { ⌜ (length (now part) ≤ rows) × (Below rows (now part) × (cursor .at < length (now draws))) ⌝ }
+    ensures { λ r. ⌜ (let rule = ruleOf (now (draws .entry)) dim (rowsFrom dim rows (now (values .entry))) (length (now (sizes .entry))) (config .weight) in
+        Taken (config .mode) rule (config .budget) splits (now (part .entry)) cursor r (now (part .exit)) (now (sizes .exit))) ⌝ }
+{
+    if part.len() < sizes.len() {
+        return Divided {
+            number: 6,
+            cursor,
+            unplaced: 0,
+        };
+    }
+    if splits == config.budget {
+        return Divided {
+            number: 7,
+            cursor,
+            unplaced: 0,
+        };
+    }
+    split::split_cluster(
+        values,
+        dim,
+        rows,
+        config,
+        draws,
+        cursor,
+        part,
+        sizes,
+        gathered,
+        training,
+    )
+}
+
 // All rows wait as one group. The last waiting group is taken: listed where it is small enough, and split where it is not.
 pub fn group_rows(
     values: &[f32],
@@ -78,7 +128,7 @@ pub fn group_rows(
         × ((0 < length (now draws)) × (config .budget < 65536))) ⌝ }
     ensures { λ r. ⌜ (let rows = rowsFrom dim (length (now (order .entry))) (now (values .entry)) in
         let rule = ruleOf (now (draws .entry)) dim rows (length (now (sizes .entry))) (config .weight) in
-        Grouped (grouping rule (config .limit) (config .budget)) (length (now (order .entry))) r (now (order .exit)) (now (ends .exit))) ⌝ }
+        Grouped (grouping (config .mode) rule (config .limit) (config .budget)) (length (now (order .entry))) r (now (order .exit)) (now (ends .exit))) ⌝ }
 {
     let rows = order.len();
     waiting[0] = rows as u16;
@@ -90,22 +140,18 @@ pub fn group_rows(
     let mut cursor = Cursor::new();
     while 0 < top {
         let end = cells::wide(waiting[top - 1]);
-        let size = end - start;
-        if size <= config.limit as usize {
+        if end - start <= config.limit as usize {
             ends[groups as usize] = end as u16;
             groups += 1;
             top -= 1;
             start = end;
-        } else if size < sizes.len() {
-            return GroupingAnswer::Refused(6);
-        } else if splits == config.budget {
-            return GroupingAnswer::Refused(7);
         } else {
-            let cut = split::split_cluster(
+            let cut = split_or_refuse(
                 values,
                 dim,
                 rows,
-                config.weight,
+                config,
+                splits,
                 draws,
                 cursor,
                 &mut order[start..end],
@@ -113,6 +159,9 @@ pub fn group_rows(
                 gathered,
                 training,
             );
+            if cut.number != 0 {
+                return GroupingAnswer::Refused(cut.number);
+            }
             cursor = cut.cursor;
             top = push(waiting, sizes, top - 1, end);
             splits += 1;

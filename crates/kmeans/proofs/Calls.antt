@@ -13,8 +13,11 @@ use Rattle.sums.specs.Sums.{zero32}
 use Rattle.sums.specs.Refusals.{unless, onAccepted, cellsOf, blankCell}
 use Rattle.sums.proofs.Rows.{rows-flat}
 use Rattle.sums.proofs.Refusing.{both, within-is, same-cons, passed, padded-all, padded-none}
+use Rattle.labels.specs.declared.mode.Mode.{Mode}
+use Rattle.labels.specs.Mode.{unplacedRefusal}
 use Rattle.kmeans.specs.declared.config.KMeansConfig.{KMeansConfig}
 use Rattle.kmeans.specs.declared.restart.Kept.{Kept}
+use Rattle.kmeans.specs.declared.call.KMeansAnswer.{KMeansAnswer}
 use Rattle.kmeans.specs.declared.call.KMeansAnswer.the-variants.{Accepted, Refused}
 use Rattle.kmeans.specs.KMeans.{kmeans}
 use Rattle.kmeans.specs.Inside.{Limits, heldOf}
@@ -76,10 +79,16 @@ fitting rows dim k config draws values labels centroids training e =
 
 -- ---- what each answer gives
 
-module _ (rows dim k : ℕ) (config : KMeansConfig) (draws : List ℕ) (values : List Float) (labelCells centroidCells trainingCells : ℕ) where
-  pub gives-refused : (number : ℕ) (labels : List ℕ) (centroids : List Float) → number ≡ kmeansRefusal rows dim k config (length draws) (length values) (labelCells ∷ centroidCells ∷ trainingCells ∷ []) → (number ≡ 0 → ⊥)
-      → labels ≡ replicate labelCells blankCell → centroids ≡ replicate centroidCells zero32
-      → Gives (kmeansCall rows dim k config draws values (labelCells ∷ centroidCells ∷ trainingCells ∷ [])) labelCells centroidCells (Refused number) labels centroids
+module _ (mode : Mode) (rows dim k : ℕ) (config : KMeansConfig) (draws : List ℕ) (values : List Float) (labelCells centroidCells trainingCells : ℕ) where
+  abbrev lent : List ℕ
+  lent = labelCells ∷ centroidCells ∷ trainingCells ∷ []
+
+  -- what the call gives, where its answer is that
+  abbrev Given : KMeansAnswer → List ℕ → List Float → Type 0
+  Given r labels centroids = Gives (kmeansCall mode rows dim k config draws values lent) labelCells centroidCells r labels centroids
+
+  pub gives-refused : (number : ℕ) (labels : List ℕ) (centroids : List Float) → number ≡ kmeansRefusal rows dim k config (length draws) (length values) lent → (number ≡ 0 → ⊥)
+      → labels ≡ replicate labelCells blankCell → centroids ≡ replicate centroidCells zero32 → Given (Refused number) labels centroids
   unfolding kmeansCall unless onAccepted cellsOf
   gives-refused zero labels centroids e h l c = absurd (h refl)
   gives-refused (suc number) labels centroids e h l c = record {
@@ -88,16 +97,31 @@ module _ (rows dim k : ℕ) (config : KMeansConfig) (draws : List ℕ) (values :
     centred = c ∙ rw (← e) (sym (padded-none zero32 centroidCells));
   }
 
-  pub gives-run : (cursor : Cursor) (r : Kept) (labels : List ℕ) (centroids : List Float) → kmeansRefusal rows dim k config (length draws) (length values) (labelCells ∷ centroidCells ∷ trainingCells ∷ []) ≡ 0
-      → cursor ≡ cursorAt draws 0 → length labels ≡ labelCells → length centroids ≡ centroidCells
-      → Ran draws config k dim (rowsFrom dim labelCells values) cursor r labels (rowsFrom dim k centroids)
-      → Gives (kmeansCall rows dim k config draws values (labelCells ∷ centroidCells ∷ trainingCells ∷ [])) labelCells centroidCells (Accepted (r .objective) (r .restart) (r .unplaced)) labels centroids
-  unfolding kmeansCall unless onAccepted cellsOf
-  gives-run cursor r labels centroids e s l c g =
-      let f = fitting rows dim k config (length draws) (length values) labelCells centroidCells trainingCells e in
-      let x : heldOf labels (rowsFrom dim k centroids) r ≡ kmeans draws 0 config k dim (rowsFrom dim rows values) .result = rw (f .labels-are) at (g .steps 0 s .0) in
-      record {
-        result = rw (e, ← x);
-        labelled = rw (e, ← x) (sym (padded-all blankCell labelCells labels l));
-        centred = rw (e, ← x, rows-flat dim k centroids (c ∙ f .cells .1 .0)) (sym (padded-all zero32 centroidCells centroids c));
-      }
+  -- the run was made: what its slices held then, each as long as it was lent
+  module _
+      (cursor : Cursor) (r : Kept) (ran : List ℕ) (means : List Float) (e : kmeansRefusal rows dim k config (length draws) (length values) lent ≡ 0)
+      (s : cursor ≡ cursorAt draws 0) (l : length ran ≡ labelCells) (c : length means ≡ centroidCells)
+      (g : Ran draws config k dim (rowsFrom dim labelCells values) cursor r ran (rowsFrom dim k means)) where
+    f : Fitting rows dim k config (length draws) (length values) labelCells centroidCells trainingCells
+    f = fitting rows dim k config (length draws) (length values) labelCells centroidCells trainingCells e
+
+    held : heldOf ran (rowsFrom dim k means) r ≡ kmeans draws 0 config k dim (rowsFrom dim rows values) .result
+    held = rw (f .labels-are) at (g .steps 0 s .0)
+
+    pub gives-lost : (number : ℕ) (labels : List ℕ) (centroids : List Float) → number ≡ unplacedRefusal mode (r .unplaced) → (number ≡ 0 → ⊥)
+        → labels ≡ replicate labelCells blankCell → centroids ≡ replicate centroidCells zero32 → Given (Refused number) labels centroids
+    unfolding kmeansCall unless onAccepted cellsOf
+    gives-lost zero labels centroids u h p q = absurd (h refl)
+    gives-lost (suc number) labels centroids u h p q = record {
+      result = rw (e, ← held, ← u);
+      labelled = p ∙ rw (e, ← held, ← u) (sym (padded-none blankCell labelCells));
+      centred = q ∙ rw (e, ← held, ← u) (sym (padded-none zero32 centroidCells));
+    }
+
+    pub gives-run : unplacedRefusal mode (r .unplaced) ≡ 0 → Given (Accepted (r .objective) (r .restart) (r .unplaced)) ran means
+    unfolding kmeansCall unless onAccepted cellsOf
+    gives-run u = record {
+      result = rw (e, ← held, u);
+      labelled = rw (e, ← held, u) (sym (padded-all blankCell labelCells ran l));
+      centred = rw (e, ← held, u, rows-flat dim k means (c ∙ f .cells .1 .0)) (sym (padded-all zero32 centroidCells means c));
+    }

@@ -1,7 +1,7 @@
 -- What k-means promises beyond its contracts. Assumes nothing.
 use mathlib.Core.Path.{_≡_, refl, sym, ap, _∙_}
 use mathlib.Core.Bool.{Bool, true, false}
-use mathlib.Core.Logic.{_↔_, ⊎-elim}
+use mathlib.Core.Logic.{_↔_, _⊎_, ⊎-elim, inl, inr}
 use mathlib.Core.List.{List, [], _∷_, flatten}
 use Prim.Native.Nat.{ℕ, zero, suc, _*_, _≤_, _<_}
 use native.Mathlib.Omega.{arith}
@@ -14,7 +14,11 @@ use Rattle.sums.specs.Cells.{Below}
 use Rattle.sums.specs.Refusals.{Answer, accepted, refused, within, unless, onAccepted, cellsOf, blankCell, Cleared}
 use Rattle.sums.proofs.Rows.{rows-length}
 use Rattle.sums.proofs.Refusing.{padded-all, padded-length, cleared-same}
-use Rattle.sums.proofs.Whens.{not-both, fails-exactly, accepted-exactly as Whens·accepted-exactly, refused-by}
+use Rattle.sums.proofs.Whens.{fails-exactly, later-exactly, accepted-exactly as Whens·accepted-exactly, refused-by}
+use Rattle.labels.specs.declared.mode.Mode.{Mode}
+use Rattle.labels.specs.declared.mode.Mode.the-variants.{Strict, OldWay}
+use Rattle.labels.specs.Mode.{unplacedRefusal}
+use Rattle.labels.proofs.Modes.{strict-none, allowed, allowed-nine, allowed-otherwise, allowed-accepted, called-old, called-strict}
 use Rattle.kmeans.specs.declared.config.KMeansConfig.{KMeansConfig}
 use Rattle.kmeans.specs.declared.call.KMeansAnswer.{KMeansAnswer}
 use Rattle.kmeans.specs.declared.call.KMeansAnswer.the-variants.{Accepted, Refused}
@@ -57,31 +61,36 @@ module _ (rows dim k : ℕ) (config : KMeansConfig) (draws : List ℕ) (values :
   abbrev lent : List ℕ
   lent = labelCells ∷ centroidCells ∷ trainingCells ∷ []
 
-  abbrev pub call : Answer Result
-  call = kmeansCall rows dim k config draws values lent
+  abbrev pub call : Mode → Answer Result
+  call mode = kmeansCall mode rows dim k config draws values lent
 
   abbrev pub answer : Result
   answer = kmeans draws 0 config k dim (rowsFrom dim rows values) .result
 
-  -- what a caller reads in the cells of a call that is told `Accepted`: a label below k for each row, and the values of k centroids
-  pub cells-below : (objective : Float) (restart unplaced : ℕ) (labels : List ℕ) (centroids : List Float)
-      → Gives call labelCells centroidCells (Accepted objective restart unplaced) labels centroids
-      → ((length labels ≡ rows) × Below k labels) × (length centroids ≡ k * dim)
+  -- what a caller reads of a call that is told `Accepted`: a label below k for each row, the values of k centroids, and in the new way no unplaced row
+  pub cells-below : (mode : Mode) (objective : Float) (restart unplaced : ℕ) (labels : List ℕ) (centroids : List Float)
+      → Gives (call mode) labelCells centroidCells (Accepted objective restart unplaced) labels centroids
+      → (((length labels ≡ rows) × Below k labels) × (length centroids ≡ k * dim)) × (mode ≡ Strict → unplaced ≡ 0)
   unfolding kmeansCall unless onAccepted cellsOf
-  cells-below objective restart unplaced labels centroids given = go (kmeansRefusal rows dim k config (length draws) (length values) lent) refl (given .result) (given .labelled) (given .centred)
+  cells-below mode objective restart unplaced labels centroids given =
+      go (kmeansRefusal rows dim k config (length draws) (length values) lent) (unplacedRefusal mode (answer .unplaced)) refl refl (given .result) (given .labelled) (given .centred)
     where
-      go : (number : ℕ) → kmeansRefusal rows dim k config (length draws) (length values) lent ≡ number
-          → told (Accepted objective restart unplaced) ≡ onAccepted (λ (a : Result). (a .objective, a .restart, a .unplaced)) (unless number (accepted answer))
-          → labels ≡ cellsOf blankCell labelCells (λ (a : Result). a .labels) (unless number (accepted answer))
-          → centroids ≡ cellsOf zero32 centroidCells (λ (a : Result). flatten (a .centroids)) (unless number (accepted answer))
-          → ((length labels ≡ rows) × Below k labels) × (length centroids ≡ k * dim)
-      go zero e t p q =
+      go : (number lost : ℕ) → kmeansRefusal rows dim k config (length draws) (length values) lent ≡ number → unplacedRefusal mode (answer .unplaced) ≡ lost
+          → told (Accepted objective restart unplaced) ≡ onAccepted (λ (a : Result). (a .objective, a .restart, a .unplaced)) (unless number (unless lost (accepted answer)))
+          → labels ≡ cellsOf blankCell labelCells (λ (a : Result). a .labels) (unless number (unless lost (accepted answer)))
+          → centroids ≡ cellsOf zero32 centroidCells (λ (a : Result). flatten (a .centroids)) (unless number (unless lost (accepted answer)))
+          → (((length labels ≡ rows) × Below k labels) × (length centroids ≡ k * dim)) × (mode ≡ Strict → unplaced ≡ 0)
+      go zero zero e u t p q =
           let f = fitting rows dim k config (length draws) (length values) labelCells centroidCells trainingCells e in
           let sized : length (rowsFrom dim rows values) ≡ rows = rows-length dim rows values in
           let b = labels-below draws 0 config k dim (rowsFrom dim rows values) (f .limits .0 .1 .0 .0) (omega (arith, sized, f .labels-are, f .limits .1 .0)) in
           let is : labels ≡ answer .labels = p ∙ padded-all blankCell labelCells (answer .labels) (b .0 ∙ (sized ∙ sym (f .labels-are))) in
-          ((ap length is ∙ (b .0 ∙ sized), rw is (b .1)), ap length q ∙ (padded-length zero32 centroidCells (flatten (answer .centroids)) ∙ f .cells .1 .0))
-      go (suc number) e t p q = let z : _≡_ {A = ℕ} 0 1 = cc in absurd (omega arith)
+          let z : _≡_ {A = Float × ℕ × ℕ} (objective, restart, unplaced) (answer .objective, answer .restart, answer .unplaced) = cc in (
+            ((ap length is ∙ (b .0 ∙ sized), rw is (b .1)), ap length q ∙ (padded-length zero32 centroidCells (flatten (answer .centroids)) ∙ f .cells .1 .0)),
+            (λ s. ap (λ (t : Float × ℕ × ℕ). t .2) z ∙ strict-none (answer .unplaced) .0 (rw s at u)),
+          )
+      go zero (suc lost) e u t p q = let z : _≡_ {A = ℕ} 0 1 = cc in absurd (omega arith)
+      go (suc number) lost e u t p q = let z : _≡_ {A = ℕ} 0 1 = cc in absurd (omega arith)
 
   -- ---- which number refuses the call, and exactly when
 
@@ -104,34 +113,68 @@ module _ (rows dim k : ℕ) (config : KMeansConfig) (draws : List ℕ) (values :
   abbrev tests : List Bool
   tests = ranges ∷ slices ∷ enough ∷ drawable ∷ []
 
+  abbrev inner : Mode → Answer Result
+  inner mode = allowed mode (answer .unplaced) answer
+
+  -- all four tests pass
+  abbrev pub Passed : Type 0
+  Passed = (ranges ≡ true) × ((slices ≡ true) × ((enough ≡ true) × (drawable ≡ true)))
+
+  -- no number but 9 is the inner answer's
+  never : (mode : Mode) (number : ℕ) → number < 9 → inner mode ≡ refused number → ⊥
+  never mode number h c = absurd (omega (arith, h, allowed-otherwise mode (answer .unplaced) answer number c))
+
   -- Refused by 1 exactly when a number is out of range.
-  pub refused-one : (call ≡ refused 1) ↔ (ranges ≡ false)
+  pub refused-one : (mode : Mode) → (call mode ≡ refused 1) ↔ (ranges ≡ false)
   unfolding kmeansCall kmeansRefusal
-  refused-one = fails-exactly tests (accepted answer) 0 (λ _. not-both answer 1)
+  refused-one mode = fails-exactly tests (inner mode) 0 (λ _. never mode 1 (omega arith))
 
   -- Refused by 2 exactly when the numbers are in range and a slice is of another length.
-  pub refused-two : (call ≡ refused 2) ↔ ((ranges ≡ true) × (slices ≡ false))
+  pub refused-two : (mode : Mode) → (call mode ≡ refused 2) ↔ ((ranges ≡ true) × (slices ≡ false))
   unfolding kmeansCall kmeansRefusal
-  refused-two = fails-exactly tests (accepted answer) 1 (λ _. not-both answer 2)
+  refused-two mode = fails-exactly tests (inner mode) 1 (λ _. never mode 2 (omega arith))
 
   -- Refused by 3 exactly when numbers and slices fit, and k is above rows.
-  pub refused-three : (call ≡ refused 3) ↔ ((ranges ≡ true) × ((slices ≡ true) × (enough ≡ false)))
+  pub refused-three : (mode : Mode) → (call mode ≡ refused 3) ↔ ((ranges ≡ true) × ((slices ≡ true) × (enough ≡ false)))
   unfolding kmeansCall kmeansRefusal
-  refused-three = fails-exactly tests (accepted answer) 2 (λ _. not-both answer 3)
+  refused-three mode = fails-exactly tests (inner mode) 2 (λ _. never mode 3 (omega arith))
 
   -- Refused by 4 exactly when all else fits, and there are no draws or more than 4,096.
-  pub refused-four : (call ≡ refused 4) ↔ ((ranges ≡ true) × ((slices ≡ true) × ((enough ≡ true) × (drawable ≡ false))))
+  pub refused-four : (mode : Mode) → (call mode ≡ refused 4) ↔ ((ranges ≡ true) × ((slices ≡ true) × ((enough ≡ true) × (drawable ≡ false))))
   unfolding kmeansCall kmeansRefusal
-  refused-four = fails-exactly tests (accepted answer) 3 (λ _. not-both answer 4)
+  refused-four mode = fails-exactly tests (inner mode) 3 (λ _. never mode 4 (omega arith))
 
-  -- Accepted, with the run's result, exactly when all four tests pass.
-  pub accepted-exactly : (call ≡ accepted answer) ↔ ((ranges ≡ true) × ((slices ≡ true) × ((enough ≡ true) × (drawable ≡ true))))
+  -- Refused by 9 exactly when all four tests pass, the mode is strict and the restart kept leaves a row unplaced.
+  pub refused-nine : (mode : Mode) → (call mode ≡ refused 9) ↔ (Passed × ((mode ≡ Strict) × (0 < answer .unplaced)))
   unfolding kmeansCall kmeansRefusal
-  accepted-exactly =
-      let w = Whens·accepted-exactly tests (accepted answer) answer in
-      ((λ c. let t = w .0 c .0 in (t .0, (t .1 .0, (t .1 .1 .0, t .1 .1 .1 .0)))), (λ t. w .1 ((t .0, (t .1 .0, (t .1 .1 .0, (t .1 .1 .1, tt)))), refl)))
+  refused-nine mode =
+      let w = later-exactly tests (inner mode) 9 (omega arith) in
+      let nine = allowed-nine mode (answer .unplaced) answer in (
+        (λ c. let t = w .0 c in ((t .0 .0, (t .0 .1 .0, (t .0 .1 .1 .0, t .0 .1 .1 .1 .0))), nine .0 (t .1))),
+        (λ t. w .1 ((t .0 .0, (t .0 .1 .0, (t .0 .1 .1 .0, (t .0 .1 .1 .1, tt)))), nine .1 (t .1))),
+      )
+
+  -- Accepted, with the run's result, exactly when all four tests pass and the mode allows its unplaced rows.
+  pub accepted-exactly : (mode : Mode) → (call mode ≡ accepted answer) ↔ (Passed × (unplacedRefusal mode (answer .unplaced) ≡ 0))
+  unfolding kmeansCall kmeansRefusal
+  accepted-exactly mode =
+      let w = Whens·accepted-exactly tests (inner mode) answer in
+      let in-mode = allowed-accepted mode (answer .unplaced) answer answer in (
+        (λ c. let t = w .0 c in ((t .0 .0, (t .0 .1 .0, (t .0 .1 .1 .0, t .0 .1 .1 .1 .0))), in-mode .0 (t .1) .0)),
+        (λ t. w .1 ((t .0 .0, (t .0 .1 .0, (t .0 .1 .1 .0, (t .0 .1 .1 .1, tt)))), in-mode .1 (t .1, refl))),
+      )
 
   -- No other number refuses a call.
-  pub refused-otherwise : (number : ℕ) → call ≡ refused number → (0 < number) × (number ≤ 4)
+  pub refused-otherwise : (mode : Mode) (number : ℕ) → call mode ≡ refused number → ((0 < number) × (number ≤ 4)) ⊎ (number ≡ 9)
   unfolding kmeansCall kmeansRefusal
-  refused-otherwise number c = ⊎-elim (λ h. h) (λ e. absurd (not-both answer number e)) (refused-by tests (accepted answer) number c)
+  refused-otherwise mode number c = ⊎-elim inl (λ e. inr (allowed-otherwise mode (answer .unplaced) answer number e)) (refused-by tests (inner mode) number c)
+
+  -- The old way is the call of before 02 (iii).
+  pub old-before : call OldWay ≡ unless (kmeansRefusal rows dim k config (length draws) (length values) lent) (accepted answer)
+  unfolding kmeansCall
+  old-before = called-old (kmeansRefusal rows dim k config (length draws) (length values) lent) (λ (a : Result). a .unplaced) answer
+
+  -- The new way is accepted exactly when the old way is and nothing is unplaced, and gives the same.
+  pub strict-exactly : (result : Result) → (call Strict ≡ accepted result) ↔ ((call OldWay ≡ accepted result) × (result .unplaced ≡ 0))
+  unfolding kmeansCall
+  strict-exactly = called-strict (kmeansRefusal rows dim k config (length draws) (length values) lent) (λ (a : Result). a .unplaced) answer

@@ -9,6 +9,8 @@ use lib.Ieee.{Float}
 use Rattle.sums.specs.Rows.{rowsFrom}
 use Rattle.sums.specs.Sums.{zero32}
 use Rattle.sums.specs.Refusals.{Answer, accepted, refused, within, sameAll, lowest, unless, onAccepted, cellsOf, blankCell}
+use Rattle.labels.specs.declared.mode.Mode.{Mode}
+use Rattle.labels.specs.Mode.{unplacedRefusal}
 use Rattle.kmeans.specs.declared.config.KMeansConfig.{KMeansConfig}
 use Rattle.kmeans.specs.declared.call.KMeansAnswer.{KMeansAnswer}
 use Rattle.kmeans.specs.declared.call.KMeansAnswer.the-variants.{Accepted, Refused}
@@ -31,10 +33,11 @@ unfoldable pub kmeansRefusal : ℕ → ℕ → ℕ → KMeansConfig → ℕ → 
 kmeansRefusal rows dim k config draws values lent =
     lowest (rangesFit rows dim k config ∷ lengthsFit rows dim k values lent ∷ leb k rows ∷ within 1 4096 draws ∷ [])
 
-unfoldable pub kmeansCall : ℕ → ℕ → ℕ → KMeansConfig → List ℕ → List Float → List ℕ → Answer Result
-kmeansCall rows dim k config draws values lent =
-    unless (kmeansRefusal rows dim k config (length draws) (length values) lent)
-    (accepted (kmeans draws 0 config k dim (rowsFrom dim rows values) .result))
+-- 9, after 1 to 4, where the mode is strict and the restart kept leaves a row unplaced, whatever the others left (02 (iii))
+unfoldable pub kmeansCall : Mode → ℕ → ℕ → ℕ → KMeansConfig → List ℕ → List Float → List ℕ → Answer Result
+kmeansCall mode rows dim k config draws values lent =
+    let kept = kmeans draws 0 config k dim (rowsFrom dim rows values) .result in
+    unless (kmeansRefusal rows dim k config (length draws) (length values) lent) (unless (unplacedRefusal mode (kept .unplaced)) (accepted kept))
 
 -- each case of the code's enum in 01's terms: the objective, the number of the restart kept and its unplaced rows, or the refusal's number
 abbrev pub told : KMeansAnswer → Answer (Float × ℕ × ℕ)

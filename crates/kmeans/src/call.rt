@@ -8,6 +8,8 @@ ghost use Rattle.sums.specs.Refusals.{Cleared};
 ghost use Rattle.kmeans.specs.Call.{rangesFit, lengthsFit, kmeansRefusal, kmeansCall, Gives};
 use crate::config::KMeansConfig;
 use crate::restart;
+use labels::mode;
+use labels::mode::Mode;
 use sums::cells;
 use sums::checks;
 use sums::draws::Cursor;
@@ -73,8 +75,10 @@ fn refusal(rows: u32, dim: u32, k: u32, config: KMeansConfig, draws: usize, lent
     0
 }
 
-// The answer: nothing is touched where the call is refused, else the run is made.
+// The answer: nothing is touched where a number from 1 to 4 refuses the call, else the run is made; after 9 the cells are blank again
+// (02 (iii)).
 fn answer(
+    mode: Mode,
     rows: u32,
     dim: u32,
     k: u32,
@@ -87,7 +91,7 @@ fn answer(
 ) -> KMeansAnswer
     requires { ⌜ (now labels ≡ replicate (length (now labels)) 65535) × (now centroids ≡ replicate (length (now centroids)) zero32) ⌝ }
     ensures { λ r. ⌜ (let lent = length (now (labels .entry)) ∷ length (now (centroids .entry)) ∷ length (now (training .entry)) ∷ [] in
-        Gives (kmeansCall rows dim k config (now (draws .entry)) (now (values .entry)) lent)
+        Gives (kmeansCall mode rows dim k config (now (draws .entry)) (now (values .entry)) lent)
         (length (now (labels .entry))) (length (now (centroids .entry))) r (now (labels .exit)) (now (centroids .exit))) ⌝ }
 {
     let lent = Lent {
@@ -112,6 +116,12 @@ fn answer(
         centroids,
         training,
     );
+    let lost = mode::unplaced_refusal(mode, kept.unplaced);
+    if lost != 0 {
+        cells::fill(labels, 65535);
+        cells::clear(centroids);
+        return KMeansAnswer::Refused(lost);
+    }
     KMeansAnswer::Accepted {
         objective: kept.objective,
         restart: kept.restart,
@@ -121,6 +131,7 @@ fn answer(
 
 // K-means on what a caller lends (01, 'K-means'): labels and centroids, or the refusal's number and blank cells; `training` ends all zero.
 pub fn run_kmeans_with_config(
+    mode: Mode,
     rows: u32,
     dim: u32,
     k: u32,
@@ -132,13 +143,14 @@ pub fn run_kmeans_with_config(
     training: &mut [f32],
 ) -> KMeansAnswer
     ensures { λ r. ⌜ (let lent = length (now (labels .entry)) ∷ length (now (centroids .entry)) ∷ length (now (training .entry)) ∷ [] in
-        Gives (kmeansCall rows dim k config (now (draws .entry)) (now (values .entry)) lent)
+        Gives (kmeansCall mode rows dim k config (now (draws .entry)) (now (values .entry)) lent)
         (length (now (labels .entry))) (length (now (centroids .entry))) r (now (labels .exit)) (now (centroids .exit))) ⌝ }
     ensures { λ _. ⌜ Cleared zero32 (now (training .exit)) ⌝ }
 {
     cells::fill(labels, 65535);
     cells::clear(centroids);
     let given = answer(
+        mode,
         rows,
         dim,
         k,

@@ -12,8 +12,11 @@ use Rattle.sums.specs.Rows.{rowsFrom}
 use Rattle.sums.specs.Sums.{zero32}
 use Rattle.sums.specs.Refusals.{accepted, within, lowest, lowestFrom, unless, onAccepted, cellsOf, padded, blankCell}
 use Rattle.sums.proofs.Tables.{length-tab}
+use Rattle.labels.specs.declared.mode.Mode.{Mode}
+use Rattle.labels.specs.declared.nearest.Placement.{Placement}
 use Rattle.labels.specs.declared.nearest.Tally.{Tally}
-use Rattle.labels.specs.Label.{nearests, distancesOf}
+use Rattle.labels.specs.Label.{nearests, labelsOf, distancesOf, unplacedOf}
+use Rattle.labels.specs.Mode.{unplacedRefusal}
 use Rattle.labels.specs.Inside.{Assigned}
 use Rattle.labels.specs.Call.{labelRefusal, labelCall, told, Gives}
 use Rattle.labels.specs.declared.call.LabelAnswer.{LabelAnswer}
@@ -54,38 +57,60 @@ fitting rows dim k values centroids cells distances e =
       distances-are = eqb-true distances rows (slices .1);
     }
 
-module _ (rows dim k : ℕ) (values centroids : List Float) (n m : ℕ) where
+module _ (mode : Mode) (rows dim k : ℕ) (values centroids : List Float) (n m : ℕ) where
   pub gives-refused : (number : ℕ) (cells : List ℕ) (distances : List Float) → number ≡ labelRefusal rows dim k (length values) (length centroids) n m → (number ≡ 0 → ⊥)
       → cells ≡ replicate n blankCell → distances ≡ replicate m zero32
-      → Gives (labelCall rows dim k values centroids n m) n (Refused number) cells × (distances ≡ cellsOf zero32 m distancesOf (labelCall rows dim k values centroids n m))
+      → Gives (labelCall mode rows dim k values centroids n m) n (Refused number) cells × (distances ≡ cellsOf zero32 m distancesOf (labelCall mode rows dim k values centroids n m))
   unfolding labelCall unless onAccepted cellsOf
   gives-refused zero cells distances e h c d = absurd (h refl)
   gives-refused (suc number) cells distances e h c d =
       (record { result = rw (← e); labels = c ∙ rw (← e) (sym (padded-none blankCell n)) }, d ∙ rw (← e) (sym (padded-none zero32 m)))
 
-  pub gives-labels : (labels₀ cells : List ℕ) (distances : List Float) (tally : Tally) → labelRefusal rows dim k (length values) (length centroids) n m ≡ 0
+  -- the count that the tally tells is that of all rows
+  counted : (labels₀ cells : List ℕ) (distances : List Float) (tally : Tally) → labelRefusal rows dim k (length values) (length centroids) n m ≡ 0
       → Assigned (nearests (rowsFrom dim k centroids) (rowsFrom dim n values)) labels₀ cells distances tally
-      → Gives (labelCall rows dim k values centroids n m) n (Labelled (tally .unplaced)) cells
-      × (distances ≡ cellsOf zero32 m distancesOf (labelCall rows dim k values centroids n m))
+      → tally .unplaced ≡ unplacedOf (nearests (rowsFrom dim k centroids) (rowsFrom dim rows values))
+  counted labels₀ cells distances tally e a =
+      a .counted ∙ ap (λ (r : ℕ). unplacedOf (nearests (rowsFrom dim k centroids) (rowsFrom dim r values))) (fitting rows dim k (length values) (length centroids) n m e .cells-are)
+
+  pub gives-lost : (labels₀ cells labels : List ℕ) (distances measured : List Float) (tally : Tally) (number : ℕ) → labelRefusal rows dim k (length values) (length centroids) n m ≡ 0
+      → Assigned (nearests (rowsFrom dim k centroids) (rowsFrom dim n values)) labels₀ labels measured tally → number ≡ unplacedRefusal mode (tally .unplaced) → (number ≡ 0 → ⊥)
+      → cells ≡ replicate n blankCell → distances ≡ replicate m zero32
+      → Gives (labelCall mode rows dim k values centroids n m) n (Refused number) cells
+      × (distances ≡ cellsOf zero32 m distancesOf (labelCall mode rows dim k values centroids n m))
   unfolding labelCall unless onAccepted cellsOf
-  gives-labels labels₀ cells distances tally e a =
+  gives-lost labels₀ cells labels distances measured tally zero e a u h c d = absurd (h refl)
+  gives-lost labels₀ cells labels distances measured tally (suc number) e a u h c d =
+      let same = sym (rw (counted labels₀ labels measured tally e a) at u) in
+      (record { result = rw (e, same); labels = c ∙ rw (e, same) (sym (padded-none blankCell n)) }, d ∙ rw (e, same) (sym (padded-none zero32 m)))
+
+  pub gives-labels : (labels₀ cells : List ℕ) (distances : List Float) (tally : Tally) → labelRefusal rows dim k (length values) (length centroids) n m ≡ 0
+      → unplacedRefusal mode (tally .unplaced) ≡ 0 → Assigned (nearests (rowsFrom dim k centroids) (rowsFrom dim n values)) labels₀ cells distances tally
+      → Gives (labelCall mode rows dim k values centroids n m) n (Labelled (tally .unplaced)) cells
+      × (distances ≡ cellsOf zero32 m distancesOf (labelCall mode rows dim k values centroids n m))
+  unfolding labelCall unless onAccepted cellsOf
+  gives-labels labels₀ cells distances tally e u a =
       let f = fitting rows dim k (length values) (length centroids) n m e in
-      let rows-are : rows ≡ n = sym (f .cells-are) in
-      let many : m ≡ n = f .distances-are ∙ rows-are in
+      let none = rw (counted labels₀ cells distances tally e a) at u in
+      let rows-are : n ≡ rows = f .cells-are in
+      let many : m ≡ n = f .distances-are ∙ sym rows-are in
       let labels-long : length cells ≡ n = ap length (a .labelled ∙ labels-tab (rowsFrom dim k centroids) dim n values) ∙ length-tab _ n in
-      let distances-long : length distances ≡ m = ap length (a .measured ∙ distances-tab (rowsFrom dim k centroids) dim n values) ∙ length-tab _ n ∙ sym many in (
+      let distances-long : length distances ≡ m = ap length (a .measured ∙ distances-tab (rowsFrom dim k centroids) dim n values) ∙ length-tab _ n ∙ sym many in
+      let found : ℕ → List Placement = λ r. nearests (rowsFrom dim k centroids) (rowsFrom dim r values) in (
         record {
-          result = rw (e, rows-are) (ap accepted (a .counted));
-          labels = rw (e, rows-are) (sym (padded-all blankCell n cells labels-long) ∙ ap (λ (l : List ℕ). padded blankCell n l) (a .labelled));
+          result = rw (e, none) (ap accepted (counted labels₀ cells distances tally e a));
+          labels = rw (e, none) (sym (padded-all blankCell n cells labels-long) ∙ ap (λ (l : List ℕ). padded blankCell n l) (a .labelled ∙ ap (λ (r : ℕ). labelsOf (found r)) rows-are));
         },
-        rw (e, rows-are) (sym (padded-all zero32 m distances distances-long) ∙ ap (λ (l : List Float). padded zero32 m l) (a .measured)),
+        rw (e, none) (sym (padded-all zero32 m distances distances-long) ∙ ap (λ (l : List Float). padded zero32 m l) (a .measured ∙ ap (λ (r : ℕ). distancesOf (found r)) rows-are)),
       )
 
 -- with room for the distances of as many rows as are in range, whatever cells are lent, a call is as with a distance for each cell
-pub room-enough : (rows dim k : ℕ) (values centroids : List Float) (n : ℕ) → labelCall rows dim k values centroids n (min n 4096) ≡ labelCall rows dim k values centroids n n
+pub room-enough : (mode : Mode) (rows dim k : ℕ) (values centroids : List Float) (n : ℕ)
+    → labelCall mode rows dim k values centroids n (min n 4096) ≡ labelCall mode rows dim k values centroids n n
 unfolding labelCall labelRefusal lowestFrom
-room-enough rows dim k values centroids n =
-    ap (λ (number : ℕ). unless number (accepted (nearests (rowsFrom dim k centroids) (rowsFrom dim rows values))))
+room-enough mode rows dim k values centroids n =
+    let found = nearests (rowsFrom dim k centroids) (rowsFrom dim rows values) in
+    ap (λ (number : ℕ). unless number (unless (unplacedRefusal mode (unplacedOf found)) (accepted found)))
     (go (within 0 4096 rows) (eqb (length values) (rows * dim) && eqb (length centroids) (k * dim)) (eqb n rows) refl refl)
   where
     go : (fits given same : Bool) → within 0 4096 rows ≡ fits → eqb n rows ≡ same

@@ -2,6 +2,7 @@
 pub mod Columns
 pub mod Searches
 pub mod Assigns
+pub mod Modes
 pub mod Calls
 pub mod Firsts
 pub mod Places

@@ -19,12 +19,16 @@ use Rattle.sums.proofs.Floats.{lt-irrefl}
 use Rattle.labels.specs.declared.nearest.Nearest.{Nearest}
 use Rattle.labels.specs.declared.nearest.Placement.{Placement}
 use Rattle.labels.specs.declared.nearest.Placement.the-variants.{Placed, Unplaced}
+use Rattle.labels.specs.declared.mode.Mode.{Mode}
+use Rattle.labels.specs.declared.mode.Mode.the-variants.{Strict, OldWay}
 use Rattle.labels.specs.declared.call.LabelAnswer.{LabelAnswer}
 use Rattle.labels.specs.declared.call.LabelAnswer.the-variants.{Labelled}
 use Rattle.labels.specs.Label.{score, nothingYet, search, placement, nearest, nearests, labelIn, distanceIn, labelsOf, distancesOf, unplacedOf}
+use Rattle.labels.specs.Mode.{unplacedRefusal}
 use Rattle.labels.specs.Call.{labelRefusal, labelCall, told, Gives}
 use Rattle.sums.proofs.Refusing.{padded-all}
-use Rattle.sums.proofs.Whens.{not-both, fails-exactly, accepted-exactly as Whens·accepted-exactly, refused-by, one-or-two}
+use Rattle.sums.proofs.Whens.{fails-exactly, later-exactly, accepted-exactly as Whens·accepted-exactly, refused-by, one-or-two}
+use Rattle.labels.proofs.Modes.{strict-none, allowed, allowed-nine, allowed-otherwise, allowed-accepted, called-old, called-strict}
 use Rattle.labels.proofs.Calls.{Fitting, fitting, told-once}
 use Rattle.labels.proofs.Assigns.{labels-tab, distances-tab}
 use Rattle.labels.proofs.Firsts.{FirstOf, first-of, search-below, from-known}
@@ -124,28 +128,32 @@ distances-known centroids (row ∷ rows) zero l = rw (nearest-distance centroids
 distances-known centroids (row ∷ rows) (suc i) l = distances-known centroids rows i (le-of-suc-le-suc l)
 
 -- ---- what a caller reads in the cells of a call that is told `Labelled`, with the count
-module _ (rows dim k : ℕ) (values centroids : List Float) (n m unplaced : ℕ) (cells : List ℕ)
-    (given : Gives (labelCall rows dim k values centroids n m) n (Labelled unplaced) cells) where
+module _ (mode : Mode) (rows dim k : ℕ) (values centroids : List Float) (n m unplaced : ℕ) (cells : List ℕ)
+    (given : Gives (labelCall mode rows dim k values centroids n m) n (Labelled unplaced) cells) where
   abbrev found : List Placement
   found = nearests (rowsFrom dim k centroids) (rowsFrom dim rows values)
 
   abbrev scoresOf : ℕ → List Float
   scoresOf i = map (score (rowAt values dim i)) (rowsFrom dim k centroids)
 
-  -- no number refuses it, its cells are the labels, and the count is theirs
-  labelled : (labelRefusal rows dim k (length values) (length centroids) n m ≡ 0) × ((cells ≡ labelsOf found) × (unplaced ≡ unplacedOf found))
+  -- no number refuses it, its cells are the labels, and the count is theirs, which the mode allows
+  labelled : (labelRefusal rows dim k (length values) (length centroids) n m ≡ 0)
+      × ((cells ≡ labelsOf found) × ((unplaced ≡ unplacedOf found) × (unplacedRefusal mode (unplacedOf found) ≡ 0)))
   unfolding labelCall unless onAccepted cellsOf
-  labelled = go (labelRefusal rows dim k (length values) (length centroids) n m) refl (given .result) (given .labels)
+  labelled =
+      go (labelRefusal rows dim k (length values) (length centroids) n m) (unplacedRefusal mode (unplacedOf found)) refl refl (given .result) (given .labels)
     where
-      go : (number : ℕ) → labelRefusal rows dim k (length values) (length centroids) n m ≡ number
-          → told (Labelled unplaced) ≡ onAccepted unplacedOf (unless number (accepted found))
-          → cells ≡ cellsOf blankCell n labelsOf (unless number (accepted found))
-          → (labelRefusal rows dim k (length values) (length centroids) n m ≡ 0) × ((cells ≡ labelsOf found) × (unplaced ≡ unplacedOf found))
-      go zero e t c =
+      go : (number lost : ℕ) → labelRefusal rows dim k (length values) (length centroids) n m ≡ number → unplacedRefusal mode (unplacedOf found) ≡ lost
+          → told (Labelled unplaced) ≡ onAccepted unplacedOf (unless number (unless lost (accepted found)))
+          → cells ≡ cellsOf blankCell n labelsOf (unless number (unless lost (accepted found)))
+          → (labelRefusal rows dim k (length values) (length centroids) n m ≡ 0)
+          × ((cells ≡ labelsOf found) × ((unplaced ≡ unplacedOf found) × (unplacedRefusal mode (unplacedOf found) ≡ 0)))
+      go zero zero e l t c =
           let f = fitting rows dim k (length values) (length centroids) n m e in
           let long : length (labelsOf found) ≡ rows = label-count (rowsFrom dim k centroids) (rowsFrom dim rows values) ∙ rows-length dim rows values in
-          (e, (c ∙ padded-all blankCell n (labelsOf found) (long ∙ sym (f .cells-are)), cc))
-      go (suc number) e t c = let z : _≡_ {A = ℕ} 0 1 = cc in absurd (omega arith)
+          (e, (c ∙ padded-all blankCell n (labelsOf found) (long ∙ sym (f .cells-are)), (cc, l)))
+      go zero (suc lost) e l t c = let z : _≡_ {A = ℕ} 0 1 = cc in absurd (omega arith)
+      go (suc number) lost e l t c = let z : _≡_ {A = ℕ} 0 1 = cc in absurd (omega arith)
 
   fits : Fitting rows dim k (length values) (length centroids) n m
   fits = fitting rows dim k (length values) (length centroids) n m (labelled .0)
@@ -171,16 +179,20 @@ module _ (rows dim k : ℕ) (values centroids : List Float) (n m unplaced : ℕ)
 
   -- the count is at most that of the rows
   pub cells-count : unplaced ≤ rows
-  cells-count = omega (arith, labelled .1 .1, rows-length dim rows values, count-most (rowsFrom dim k centroids) (rowsFrom dim rows values))
+  cells-count = omega (arith, labelled .1 .1 .0, rows-length dim rows values, count-most (rowsFrom dim k centroids) (rowsFrom dim rows values))
+
+  -- in the new way it is 0: every row is placed
+  pub cells-placed : mode ≡ Strict → unplaced ≡ 0
+  cells-placed s = labelled .1 .1 .0 ∙ strict-none (unplacedOf found) .0 (rw s at (labelled .1 .1 .1))
 
   -- the distances of the call, where they were asked for
-  module _ (distances : List Float) (measured : distances ≡ cellsOf zero32 m distancesOf (labelCall rows dim k values centroids n m)) where
+  module _ (distances : List Float) (measured : distances ≡ cellsOf zero32 m distancesOf (labelCall mode rows dim k values centroids n m)) where
     distances-are : distances ≡ distancesOf found
     unfolding labelCall unless cellsOf
     distances-are =
         let long : length (distancesOf found) ≡ m = length-map found distanceIn ∙ sym (length-map found labelIn)
         ∙ (label-count (rowsFrom dim k centroids) (rowsFrom dim rows values) ∙ rows-length dim rows values ∙ sym (fits .distances-are)) in
-        measured ∙ rw (labelled .0) (padded-all zero32 m (distancesOf found) long)
+        measured ∙ rw (labelled .0, labelled .1 .1 .1) (padded-all zero32 m (distancesOf found) long)
 
     cell-distance : (i : ℕ) → i < rows → getD distances i nan ≡ distanceIn (nearest (rowsFrom dim k centroids) (rowAt values dim i))
     cell-distance i l =
@@ -206,20 +218,21 @@ module _ (rows dim k : ℕ) (values centroids : List Float) (n m unplaced : ℕ)
 
     -- the count is the number of infinite distances
     pub cells-infinite : unplaced ≡ infinitesIn distances
-    cells-infinite = labelled .1 .1 ∙ (count-infinite (rowsFrom dim k centroids) (rowsFrom dim rows values) ∙ ap infinitesIn (sym distances-are))
+    cells-infinite = labelled .1 .1 .0 ∙ (count-infinite (rowsFrom dim k centroids) (rowsFrom dim rows values) ∙ ap infinitesIn (sym distances-are))
 
--- ---- in any two calls that are told `Labelled`, two rows of the same readings have the same label, whatever stands around them
-pub cells-alike : (rows rows′ dim k : ℕ) (values values′ centroids : List Float) (n n′ m m′ unplaced unplaced′ : ℕ) (cells cells′ : List ℕ)
-    → Gives (labelCall rows dim k values centroids n m) n (Labelled unplaced) cells → Gives (labelCall rows′ dim k values′ centroids n′ m′) n′ (Labelled unplaced′) cells′
+-- ---- in any two calls that are told `Labelled`, each in either way, two rows of the same readings have the same label, whatever stands around them
+pub cells-alike : (mode mode′ : Mode) (rows rows′ dim k : ℕ) (values values′ centroids : List Float) (n n′ m m′ unplaced unplaced′ : ℕ) (cells cells′ : List ℕ)
+    → Gives (labelCall mode rows dim k values centroids n m) n (Labelled unplaced) cells
+    → Gives (labelCall mode′ rows′ dim k values′ centroids n′ m′) n′ (Labelled unplaced′) cells′
     → (i i′ : ℕ) → i < rows → i′ < rows′ → rowAt values dim i ≡ rowAt values′ dim i′ → getD cells i 0 ≡ getD cells′ i′ 0
-cells-alike rows rows′ dim k values values′ centroids n n′ m m′ unplaced unplaced′ cells cells′ g g′ i i′ l l′ e =
-    cell-nearest rows dim k values centroids n m unplaced cells g i l
-    ∙ (ap (λ (row : Row). labelIn (nearest (rowsFrom dim k centroids) row)) e ∙ sym (cell-nearest rows′ dim k values′ centroids n′ m′ unplaced′ cells′ g′ i′ l′))
+cells-alike mode mode′ rows rows′ dim k values values′ centroids n n′ m m′ unplaced unplaced′ cells cells′ g g′ i i′ l l′ e =
+    cell-nearest mode rows dim k values centroids n m unplaced cells g i l
+    ∙ (ap (λ (row : Row). labelIn (nearest (rowsFrom dim k centroids) row)) e ∙ sym (cell-nearest mode′ rows′ dim k values′ centroids n′ m′ unplaced′ cells′ g′ i′ l′))
 
 -- ---- which number refuses a call, and exactly when
 module _ (rows dim k : ℕ) (values centroids : List Float) (n m : ℕ) where
-  abbrev pub call : Answer (List Placement)
-  call = labelCall rows dim k values centroids n m
+  abbrev pub call : Mode → Answer (List Placement)
+  call mode = labelCall mode rows dim k values centroids n m
 
   -- every number is in range
   abbrev pub ranges : Bool
@@ -232,27 +245,59 @@ module _ (rows dim k : ℕ) (values centroids : List Float) (n m : ℕ) where
   abbrev pub answer : List Placement
   answer = nearests (rowsFrom dim k centroids) (rowsFrom dim rows values)
 
+  abbrev inner : Mode → Answer (List Placement)
+  inner mode = allowed mode (unplacedOf answer) answer
+
+  -- no number but 9 is the inner answer's
+  never : (mode : Mode) (number : ℕ) → number < 9 → inner mode ≡ refused number → ⊥
+  never mode number h c = absurd (omega (arith, h, allowed-otherwise mode (unplacedOf answer) answer number c))
+
   -- Refused by 1 exactly when a number is out of range.
-  pub refused-one : (call ≡ refused 1) ↔ (ranges ≡ false)
+  pub refused-one : (mode : Mode) → (call mode ≡ refused 1) ↔ (ranges ≡ false)
   unfolding labelCall labelRefusal
-  refused-one = fails-exactly (ranges ∷ slices ∷ []) (accepted answer) 0 (λ _. not-both answer 1)
+  refused-one mode = fails-exactly (ranges ∷ slices ∷ []) (inner mode) 0 (λ _. never mode 1 (omega arith))
 
   -- Refused by 2 exactly when the numbers are in range and a slice is of another length.
-  pub refused-two : (call ≡ refused 2) ↔ ((ranges ≡ true) × (slices ≡ false))
+  pub refused-two : (mode : Mode) → (call mode ≡ refused 2) ↔ ((ranges ≡ true) × (slices ≡ false))
   unfolding labelCall labelRefusal
-  refused-two = fails-exactly (ranges ∷ slices ∷ []) (accepted answer) 1 (λ _. not-both answer 2)
+  refused-two mode = fails-exactly (ranges ∷ slices ∷ []) (inner mode) 1 (λ _. never mode 2 (omega arith))
 
-  -- Accepted, with an answer a row, exactly when both tests pass.
-  pub accepted-exactly : (call ≡ accepted answer) ↔ ((ranges ≡ true) × (slices ≡ true))
+  -- Refused by 9 exactly when both tests pass, the mode is strict and a row is unplaced.
+  pub refused-nine : (mode : Mode) → (call mode ≡ refused 9) ↔ (((ranges ≡ true) × (slices ≡ true)) × ((mode ≡ Strict) × (0 < unplacedOf answer)))
   unfolding labelCall labelRefusal
-  accepted-exactly =
-      let w = Whens·accepted-exactly (ranges ∷ slices ∷ []) (accepted answer) answer in
-      ((λ c. let t = w .0 c .0 in (t .0, t .1 .0)), (λ t. w .1 ((t .0, (t .1, tt)), refl)))
+  refused-nine mode =
+      let w = later-exactly (ranges ∷ slices ∷ []) (inner mode) 9 (omega arith) in
+      let nine = allowed-nine mode (unplacedOf answer) answer in (
+        (λ c. let t = w .0 c in ((t .0 .0, t .0 .1 .0), nine .0 (t .1))),
+        (λ t. w .1 ((t .0 .0, (t .0 .1, tt)), nine .1 (t .1))),
+      )
+
+  -- Accepted, with an answer a row, exactly when both tests pass and the mode allows the unplaced rows.
+  pub accepted-exactly : (mode : Mode) → (call mode ≡ accepted answer) ↔ (((ranges ≡ true) × (slices ≡ true)) × (unplacedRefusal mode (unplacedOf answer) ≡ 0))
+  unfolding labelCall labelRefusal
+  accepted-exactly mode =
+      let w = Whens·accepted-exactly (ranges ∷ slices ∷ []) (inner mode) answer in
+      let in-mode = allowed-accepted mode (unplacedOf answer) answer answer in (
+        (λ c. let t = w .0 c in ((t .0 .0, t .0 .1 .0), in-mode .0 (t .1) .0)),
+        (λ t. w .1 ((t .0 .0, (t .0 .1, tt)), in-mode .1 (t .1, refl))),
+      )
 
   -- No other number refuses a call.
-  pub refused-otherwise : (number : ℕ) → call ≡ refused number → (number ≡ 1) ⊎ (number ≡ 2)
+  pub refused-otherwise : (mode : Mode) (number : ℕ) → call mode ≡ refused number → ((number ≡ 1) ⊎ (number ≡ 2)) ⊎ (number ≡ 9)
   unfolding labelCall labelRefusal
-  refused-otherwise number c = ⊎-elim (λ h. one-or-two number (h .0) (h .1)) (λ e. absurd (not-both answer number e)) (refused-by (ranges ∷ slices ∷ []) (accepted answer) number c)
+  refused-otherwise mode number c =
+      ⊎-elim (λ h. inl (one-or-two number (h .0) (h .1))) (λ e. inr (allowed-otherwise mode (unplacedOf answer) answer number e))
+      (refused-by (ranges ∷ slices ∷ []) (inner mode) number c)
+
+  -- The old way is the call of before 02 (iii).
+  pub old-before : call OldWay ≡ unless (labelRefusal rows dim k (length values) (length centroids) n m) (accepted answer)
+  unfolding labelCall
+  old-before = called-old (labelRefusal rows dim k (length values) (length centroids) n m) unplacedOf answer
+
+  -- The new way is accepted exactly when the old way is and nothing is unplaced, and gives the same.
+  pub strict-exactly : (found : List Placement) → (call Strict ≡ accepted found) ↔ ((call OldWay ≡ accepted found) × (unplacedOf found ≡ 0))
+  unfolding labelCall
+  strict-exactly = called-strict (labelRefusal rows dim k (length values) (length centroids) n m) unplacedOf answer
 
 -- ---- the answer and every cell follow from the call alone: any two results that a call may give are the same
 pub one-answer : {answer : Answer (List Placement)} {n : ℕ} {r r′ : LabelAnswer} {cells cells′ : List ℕ} → Gives answer n r cells → Gives answer n r′ cells′ → (r ≡ r′) × (cells ≡ cells′)

@@ -9,7 +9,9 @@ use lib.Ieee.{Float}
 use Rattle.sums.specs.Rows.{rowsFrom}
 use Rattle.sums.specs.Refusals.{Answer, accepted, refused, within, lowest, unless, onAccepted, cellsOf, blankCell}
 use Rattle.labels.specs.declared.nearest.Placement.{Placement}
+use Rattle.labels.specs.declared.mode.Mode.{Mode}
 use Rattle.labels.specs.Label.{nearests, labelsOf, unplacedOf}
+use Rattle.labels.specs.Mode.{unplacedRefusal}
 use Rattle.labels.specs.declared.call.LabelAnswer.{LabelAnswer}
 use Rattle.labels.specs.declared.call.LabelAnswer.the-variants.{Labelled, Refused}
 
@@ -19,11 +21,11 @@ labelRefusal rows dim k values centroids cells distances =
     lowest ((within 0 4096 rows && within 1 64 dim && within 1 64 k)
     ∷ (eqb values (rows * dim) && eqb centroids (k * dim) && eqb cells rows && eqb distances rows) ∷ [])
 
--- one answer a row
-unfoldable pub labelCall : ℕ → ℕ → ℕ → List Float → List Float → ℕ → ℕ → Answer (List Placement)
-labelCall rows dim k values centroids cells distances =
-    unless (labelRefusal rows dim k (length values) (length centroids) cells distances)
-    (accepted (nearests (rowsFrom dim k centroids) (rowsFrom dim rows values)))
+-- one answer a row; and 9, after 1 and 2, where the mode is strict and a row is unplaced (02 (iii))
+unfoldable pub labelCall : Mode → ℕ → ℕ → ℕ → List Float → List Float → ℕ → ℕ → Answer (List Placement)
+labelCall mode rows dim k values centroids cells distances =
+    let found = nearests (rowsFrom dim k centroids) (rowsFrom dim rows values) in
+    unless (labelRefusal rows dim k (length values) (length centroids) cells distances) (unless (unplacedRefusal mode (unplacedOf found)) (accepted found))
 
 -- each case of the code's enum in 01's terms: the number of unplaced rows (02 (ii)), or the refusal's number
 abbrev pub told : LabelAnswer → Answer ℕ

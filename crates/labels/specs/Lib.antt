@@ -2,5 +2,6 @@
 pub mod Label
 pub mod Panels
 pub mod Pool
+pub mod Mode
 pub mod Call
 pub mod Inside

@@ -8,6 +8,8 @@ ghost use Rattle.sums.specs.Sums.{zero32};
 ghost use Rattle.sums.specs.Refusals.{within, cellsOf};
 ghost use Rattle.labels.specs.Label.{distancesOf};
 ghost use Rattle.labels.specs.Call.{labelRefusal, labelCall, Gives};
+use crate::mode;
+use crate::mode::Mode;
 use crate::nearest;
 use sums::cells;
 use sums::checks;
@@ -78,8 +80,9 @@ fn refusal(
 }
 
 // The labels of rows against given centroids, and how far each row is from its own (01, 'Sums in stated order'; 02 (ii)); or the refusal's
-// number and blank cells.
+// number and blank cells, after 9 too, which is found when the labels stand (02 (iii)).
 pub fn place_rows(
+    mode: Mode,
     rows: u32,
     dim: u32,
     k: u32,
@@ -89,9 +92,9 @@ pub fn place_rows(
     distances: &mut [f32],
 ) -> LabelAnswer
     ensures { λ r. ⌜ (let n = length (now (labels .entry)) in let m = length (now (distances .entry)) in
-        Gives (labelCall rows dim k (now (values .entry)) (now (centroids .entry)) n m) n r (now (labels .exit))) ⌝ }
+        Gives (labelCall mode rows dim k (now (values .entry)) (now (centroids .entry)) n m) n r (now (labels .exit))) ⌝ }
     ensures { λ r. ⌜ (let n = length (now (labels .entry)) in let m = length (now (distances .entry)) in
-        now (distances .exit) ≡ cellsOf zero32 m distancesOf (labelCall rows dim k (now (values .entry)) (now (centroids .entry)) n m)) ⌝ }
+        now (distances .exit) ≡ cellsOf zero32 m distancesOf (labelCall mode rows dim k (now (values .entry)) (now (centroids .entry)) n m)) ⌝ }
 {
     let wide = dim as usize;
     let clusters = k as usize;
@@ -121,11 +124,19 @@ pub fn place_rows(
         labels,
         distances,
     );
-    LabelAnswer::Labelled(tally.unplaced as u32)
+    let unplaced = tally.unplaced as u32;
+    let lost = mode::unplaced_refusal(mode, unplaced);
+    if lost != 0 {
+        cells::fill(labels, 65535);
+        cells::clear(distances);
+        return LabelAnswer::Refused(lost);
+    }
+    LabelAnswer::Labelled(unplaced)
 }
 
 // The labels alone.
 pub fn label_rows(
+    mode: Mode,
     rows: u32,
     dim: u32,
     k: u32,
@@ -134,9 +145,18 @@ pub fn label_rows(
     labels: &mut [u16],
 ) -> LabelAnswer
     ensures { λ r. ⌜ (let n = length (now (labels .entry)) in
-        Gives (labelCall rows dim k (now (values .entry)) (now (centroids .entry)) n n) n r (now (labels .exit))) ⌝ }
+        Gives (labelCall mode rows dim k (now (values .entry)) (now (centroids .entry)) n n) n r (now (labels .exit))) ⌝ }
 {
     let n = numbers::least(labels.len(), 4096);
     let mut distances = [0.0f32; 4096];
-    place_rows(rows, dim, k, values, centroids, labels, &mut distances[..n])
+    place_rows(
+        mode,
+        rows,
+        dim,
+        k,
+        values,
+        centroids,
+        labels,
+        &mut distances[..n],
+    )
 }

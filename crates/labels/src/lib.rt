@@ -2,6 +2,7 @@
 // cell for a row; dim and k are numbers.
 pub mod call;
 pub mod lanes;
+pub mod mode;
 pub mod nearest;
 pub mod pool;
 pub mod positions;

@@ -1,4 +1,4 @@
--- Which stored cases agree with the definitions of the four operations (01, 'What is ported'; the oracle is the one of that section). docs/REPLAY.md
+-- Which stored cases agree with the definitions of the four operations (01, 'What is ported'; the oracle is the one of that section), in the new way (02 (iii)). docs/REPLAY.md
 -- has the layout of a case's record: sixteen words of 32 bits, the `head`, and then four parts.
 use mathlib.Core.Bool.{Bool, cond, _&&_}
 use mathlib.Core.List.{List, [], _∷_, map, flatten}
@@ -10,6 +10,7 @@ use Rattle.sums.specs.Rows.{rowsFrom}
 use Rattle.sums.specs.Sums.{zero32}
 use Rattle.sums.specs.Refusals.{Answer, sameAll, cellsOf, blankCell}
 use Rattle.words.specs.Bytes.{u32At, wordsFrom, floatsFrom, bytes16}
+use Rattle.labels.specs.declared.mode.Mode.the-variants.{Strict}
 use Rattle.kmeans.specs.KMeans.{Result}
 use Rattle.kmeans.specs.Call.{kmeansCall}
 use Rattle.exports.specs.Exports.{codeOf, figureOf, labelCall, closureBytesCall, closureWritten, configOf}
@@ -22,7 +23,7 @@ bytesAgree head stored written answer = eqb (codeOf answer) (u32At head 4) && sa
 
 -- the label of one row: dim and k, the row, the centroids
 unfoldable pub labelAgrees : List ℕ → List ℕ → List ℕ → List ℕ → Bool
-labelAgrees head row centroids stored = bytesAgree head stored bytes16 (labelCall (u32At head 24) (u32At head 28) row centroids (length stored))
+labelAgrees head row centroids stored = bytesAgree head stored bytes16 (labelCall Strict (u32At head 24) (u32At head 28) row centroids (length stored))
 
 -- closure: dim, count, replicas and epsilon's bits, the vector, the centroids
 unfoldable pub closureAgrees : List ℕ → List ℕ → List ℕ → List ℕ → Bool
@@ -36,7 +37,7 @@ closureAgrees head vector centroids stored =
 unfoldable pub kmeansAgreesOf : ℕ → ℕ → ℕ → ℕ → List ℕ → List ℕ → List ℕ → List ℕ → List ℕ → Bool
 kmeansAgreesOf d v n m head draws values labels centroids =
     let w : ℕ → ℕ = u32At head in
-    let answer = kmeansCall (w 24) (w 28) (w 32) (configOf (w 36) (w 40) (w 44) (w 48)) (wordsFrom d draws) (floatsFrom v values) (n ∷ m ∷ v ∷ []) in
+    let answer = kmeansCall Strict (w 24) (w 28) (w 32) (configOf (w 36) (w 40) (w 44) (w 48)) (wordsFrom d draws) (floatsFrom v values) (n ∷ m ∷ v ∷ []) in
     eqb (codeOf answer) (w 4) && eqb (figureOf 0 (λ (a : Result). a .restart) answer) (w 52)
     && eqb (toBits binary64 (figureOf zero32 (λ (a : Result). a .objective) answer)) (w 56 + 4294967296 * w 60)
     && sameAll (cellsOf blankCell n (λ (a : Result). a .labels) answer) (wordsFrom n labels)

@@ -6,18 +6,18 @@ use Rattle.grouping.specs.Groups.{splitFrom}
 use Rattle.batch.specs.Shape.{trailerAt, fitsFile, shapeOf}
 use Rattle.batch.specs.Listing.{placesFrom, decimal, rowNumbers, groupLine, listing}
 use Rattle.batch.specs.Batch.{answerBy}
-use Rattle.worked.specs.Table.{Table}
+use Rattle.worked.specs.Table.{half, Table}
 use Rattle.worked.proofs.Opened.{opened}
-use Rattle.worked.proofs.Settled.{P1-parts, P1-lost, P2-parts, P2-lost, P2-refused, P10-settles}
+use Rattle.worked.proofs.Settled.{P1-parts, P1-lost, P2-parts, P2-lost, P2-refused, split-lost, P10-settles}
 
 pub table-holds : Table
 unfolding opened splitFrom ofBits numberOf trailerAt fitsFile shapeOf placesFrom decimal rowNumbers groupLine listing answerBy
 table-holds = record {
   P1 = rw (P1-parts, P1-lost);
-  P1-listing = rw P1-parts;
+  P1-listing = rw (P1-parts, P1-lost);
   no-bytes = refl;
   P2 = rw (P2-refused 3 0);
-  P2-balanced = rw (P2-parts, P2-lost);
+  P2-balanced = rw (P2-parts, P2-lost half 0);
   P3-share = refl;
   P3-allowance = refl;
   P3-sizes = refl;
@@ -26,11 +26,13 @@ table-holds = record {
   P5 = refl;
   P6 = refl;
   P7 = refl;
+  P7-strict = refl;
   P7-unplaced = refl;
   P8 = refl;
   P8-wide = refl;
   P9 = refl;
   P10 = rw P10-settles;
+  lost-split = rw split-lost;
   P11 = λ a b c weight. refl;
   P12 = λ a b c weight. refl;
   P12-two-rows = λ a b weight. refl;

@@ -9,6 +9,7 @@ use Rattle.sums.specs.Draws.{drawn, exchange, exchangesFrom, pick}
 use Rattle.sums.specs.Refusals.{sameAll, lowestFrom, unless, onAccepted}
 use Rattle.labels.specs.Label.{scoreFrom, score, better, nearestFrom, search, placement, nearest, nearests, unplacedOf}
 use Rattle.labels.specs.Pool.{farther, blockPool, blockPools, pool}
+use Rattle.labels.specs.Mode.{unplacedRefusal}
 use Rattle.labels.specs.Call.{labelRefusal, labelCall}
 use Rattle.kmeans.specs.Steps.{target, trainingIf, countsFrom, sumsFrom, timesInverse, updateFrom, drawsAfter, update, objectiveFrom}
 use Rattle.kmeans.specs.KMeans.{firstFit, resultOf, keepBetter, fitOf, restartsFrom, restartsOf, kmeans}
@@ -17,12 +18,12 @@ use Rattle.closure.specs.Closure.{nearer, reachOf, listed, closure, anyNan, uno
 use Rattle.closure.specs.Call.{closureRefusal, answered, closureCall}
 use Rattle.grouping.specs.Parts.{having, flat}
 use Rattle.grouping.specs.Balance.{allowed, seek, closestFrom, closestOf, balanced, moves}
-use Rattle.grouping.specs.Groups.{balanceIf, waits, pushed, after, front, back, groupFrom, meanOf}
+use Rattle.grouping.specs.Groups.{waits, pushed, after, front, back, groupFrom, meanOf}
 use Rattle.grouping.specs.Call as call
 
 -- all of them but picking
 unfoldable pub unpicked : Unit {0}
-unfolding add sub mul div lt le isNan ofInt toUnsigned flatMap flatten rowsFrom sumFrom normOf dotOf apartOf spreadOf addRow place orderFrom keep sameAll lowestFrom unless onAccepted scoreFrom score better nearestFrom search placement nearest nearests unplacedOf farther blockPool blockPools pool labelRefusal labelCall target trainingIf countsFrom sumsFrom timesInverse updateFrom drawsAfter update objectiveFrom firstFit resultOf keepBetter fitOf restartsFrom restartsOf kmeans rangesFit lengthsFit kmeansRefusal kmeansCall nearer reachOf listed closure anyNan unordered closureRefusal answered closureCall having flat allowed seek closestFrom closestOf balanced moves waits pushed after front back groupFrom meanOf call.rangesFit call.lengthsFit call.groupingRefusal call.groupingCall
+unfolding add sub mul div lt le isNan ofInt toUnsigned flatMap flatten rowsFrom sumFrom normOf dotOf apartOf spreadOf addRow place orderFrom keep sameAll lowestFrom unless onAccepted scoreFrom score better nearestFrom search placement nearest nearests unplacedOf farther blockPool blockPools pool unplacedRefusal labelRefusal labelCall target trainingIf countsFrom sumsFrom timesInverse updateFrom drawsAfter update objectiveFrom firstFit resultOf keepBetter fitOf restartsFrom restartsOf kmeans rangesFit lengthsFit kmeansRefusal kmeansCall nearer reachOf listed closure anyNan unordered closureRefusal answered closureCall having flat allowed seek closestFrom closestOf balanced moves waits pushed after front back groupFrom meanOf call.rangesFit call.lengthsFit call.groupingRefusal call.groupingCall
 unpicked = tt
 
 unfoldable pub opened : Unit {0}

@@ -7,14 +7,15 @@ use native.Mathlib.Numerals.{unary-clauses}
 use native.Mathlib.Omega.{arith}
 use lib.IntN.{pos, negsuc}
 use lib.ListN.{length, replicate, getD-replicate}
-use lib.Ieee.{Float, fin, lt}
+use lib.Ieee.{Float, fin, nan}
 use Rattle.sums.specs.Tables.{upTo}
 use Rattle.sums.specs.Rows.{Row, rowsAt}
 use Rattle.sums.specs.Cells.{Below}
 use Rattle.sums.specs.Draws.{pick}
 use Rattle.sums.proofs.Picks.{pick-length, pick-below}
-use Rattle.sums.specs.Sums.{zero32, one32, count32}
+use Rattle.sums.specs.Sums.{zero32, one32, two32, count32}
 use Rattle.sums.specs.Refusals.{refused}
+use Rattle.labels.specs.declared.mode.Mode.the-variants.{Strict}
 use Rattle.labels.specs.Label.{nearests}
 use Rattle.kmeans.specs.Steps.{Fit, update, iterate}
 use Rattle.kmeans.proofs.Turns.{fixed}
@@ -102,15 +103,29 @@ pub P2-parts : partsOf (ruled five half) 0 (upTo 5) ≡ (2 ∷ 3 ∷ 4 ∷ []) �
 unfolding opened balanceIf
 P2-parts = P2-together half 0
 
-pub P2-lost : lostBy (ruled five half) 0 (upTo 5) ≡ 0
+pub P2-lost : (weight : Float) (n : ℕ) → lostBy (ruled five weight) n (upTo 5) ≡ 0
 unfolding unpicked lostBy
-P2-lost = rw (P2-fit (0 + 0))
+P2-lost weight n = rw (P2-fit (n + 0))
 
 -- with no weight so does every split, until the budget is spent
-pub P2-refused : (left n : ℕ) → splitFrom (partsOf (ruled five zero32)) (madeBy (ruled five zero32)) (lostBy (ruled five zero32)) 4 2 left n (upTo 5 ∷ []) ≡ refused 7
+pub P2-refused : (left n : ℕ) → splitFrom Strict (partsOf (ruled five zero32)) (madeBy (ruled five zero32)) (lostBy (ruled five zero32)) 4 2 left n (upTo 5 ∷ []) ≡ refused 7
 unfolding opened splitFrom balanceIf
 P2-refused zero n = refl
-P2-refused (suc left) n = rw (P2-together zero32 n, P2-refused left (madeBy (ruled five zero32) n (upTo 5)))
+P2-refused (suc left) n = rw (P2-lost zero32 n, P2-together zero32 n, P2-refused left (madeBy (ruled five zero32) n (upTo 5)))
+
+-- ---- a NaN that is split
+
+abbrev three : List Row
+three = (nan ∷ []) ∷ (one32 ∷ []) ∷ (two32 ∷ []) ∷ []
+
+-- the NaN and the third row are picked; no score of the NaN is below infinity, and the other two rows are one cluster
+split-settles : iterate (0 ∷ []) 2 1 32768 three 100 (at ((nan ∷ []) ∷ (two32 ∷ []) ∷ []) 2) ≡ at ((nan ∷ []) ∷ (fin false 3 (negsuc 0) ∷ []) ∷ []) 2
+unfolding opened iterate
+split-settles = settled (0 ∷ []) 2 1 32768 three 99 1 (at ((nan ∷ []) ∷ (two32 ∷ []) ∷ []) 2) (at ((nan ∷ []) ∷ (fin false 3 (negsuc 0) ∷ []) ∷ []) 2) refl refl
+
+pub split-lost : lostBy (ruled three zero32) 0 (upTo 3) ≡ 1
+unfolding opened lostBy
+split-lost = rw split-settles
 
 -- ---- P10
 

@@ -13,6 +13,7 @@ use Rattle.sums.specs.Rows.{Row, rowsAt}
 use Rattle.sums.specs.Sums.{zero32, one32, count32, sumFrom, apartOf, addRow, zeroRow}
 use Rattle.sums.specs.Ordering.{place}
 use Rattle.sums.specs.Refusals.{Answer, accepted, refused}
+use Rattle.labels.specs.declared.mode.Mode.the-variants.{Strict}
 use Rattle.labels.specs.Label.{nearestFrom, nothingYet, nearest, labelIn}
 use Rattle.labels.specs.Pool.{farther, pool}
 use Rattle.kmeans.specs.Steps.{timesInverse, iterate}
@@ -103,7 +104,7 @@ pub record Slips : Type 0 where
   pub balancing : Told (balance six (singles (0 ∷ 10 ∷ [])) (share 6 2) half (upTo 6 ∷ [] ∷ [])) (meanBalanced 1 six (share 6 2) (allowed (share 6 2) half) 10 (singles (0 ∷ 10 ∷ [])) (upTo 6 ∷ [] ∷ []))
       ((0 ∷ 3 ∷ 4 ∷ 5 ∷ []) ∷ (1 ∷ 2 ∷ []) ∷ []) ((0 ∷ 2 ∷ 4 ∷ 5 ∷ []) ∷ (1 ∷ 3 ∷ []) ∷ [])
   -- P1: the part put to wait last is finished first
-  pub finishing : Told (grouping (ruled four zero32) 2 4) (queuedFrom (partsOf (ruled four zero32)) (madeBy (ruled four zero32)) (lostBy (ruled four zero32)) 2 2 4 0 (upTo 4 ∷ []))
+  pub finishing : Told (grouping Strict (ruled four zero32) 2 4) (queuedFrom (partsOf (ruled four zero32)) (madeBy (ruled four zero32)) (lostBy (ruled four zero32)) 2 2 4 0 (upTo 4 ∷ []))
       (grouped ((2 ∷ 3 ∷ []) ∷ (0 ∷ 1 ∷ []) ∷ []) 1) (grouped ((0 ∷ 1 ∷ []) ∷ (2 ∷ 3 ∷ []) ∷ []) 1)
   -- nine rows equally far: the ninth stays out
   pub pooling : Told (pool 32768 (replicate 9 one32)) (enteredFrom (replicate 9 one32) [] (upTo 9)) (upTo 8) (upTo 7 ++ (8 ∷ []))

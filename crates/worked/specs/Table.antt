@@ -9,6 +9,8 @@ use lib.ListN.{length, replicate}
 use lib.Ieee.{Float, fin, nan}
 use Rattle.sums.specs.Sums.{zero32, one32, two32, count32}
 use Rattle.sums.specs.Refusals.{Answer, accepted, refused, onAccepted}
+use Rattle.labels.specs.declared.mode.Mode.{Mode}
+use Rattle.labels.specs.declared.mode.Mode.the-variants.{Strict, OldWay}
 use Rattle.labels.specs.declared.nearest.Placement.the-variants.{Unplaced}
 use Rattle.labels.specs.Label.{labelsOf}
 use Rattle.labels.specs.Call.{labelCall}
@@ -29,19 +31,19 @@ half = fin false 1 (negsuc 0)
 abbrev pub alike : ℕ → List (List Float)
 alike n = replicate n (one32 ∷ [])
 
--- a grouping of rows of one reading: draws [0], and all slices as long as they are to be
+-- a grouping of rows of one reading, in the new way: draws [0], and all slices as long as they are to be
 abbrev batch : List Float → ℕ → ℕ → Float → ℕ → Answer Groups
 batch values limit branching weight budget =
     let n = length values in
-    groupingCall n 1 (record { limit = limit; branching = branching; weight = weight; budget = budget }) (0 ∷ []) values (lengthsOf n 1)
+    groupingCall n 1 (record { limit = limit; branching = branching; weight = weight; budget = budget; mode = Strict }) (0 ∷ []) values (lengthsOf n 1)
 
 -- an accepted grouping in which no split left a row unplaced
 abbrev pub grouped : List (List ℕ) → ℕ → Answer Groups
 grouped groups splits = accepted (record { groups = groups; splits = splits; unplaced = 0 })
 
 -- the labels that a labelling of one row of one reading against two centroids gives
-abbrev labels : Float → Float → Float → Answer (List ℕ)
-labels reading first second = onAccepted labelsOf (labelCall 1 1 2 (reading ∷ []) (first ∷ second ∷ []) 1 1)
+abbrev labels : Mode → Float → Float → Float → Answer (List ℕ)
+labels mode reading first second = onAccepted labelsOf (labelCall mode 1 1 2 (reading ∷ []) (first ∷ second ∷ []) 1 1)
 
 pub record Table : Type 0 where
   pub P1 : batch (zero32 ∷ one32 ∷ count32 10 ∷ count32 11 ∷ []) 2 2 zero32 4 ≡ grouped ((2 ∷ 3 ∷ []) ∷ (0 ∷ 1 ∷ []) ∷ []) 1
@@ -60,18 +62,22 @@ pub record Table : Type 0 where
   pub P3-sizes : sizesOf (balance (alike 1) (alike 2) 20 (fin false 1 (negsuc 1)) (replicate 40 0 ∷ [] ∷ [])) ≡ 30 ∷ 10 ∷ []
   pub P3-moves : moves (toward (alike 1) (alike 2)) 20 25 10 (replicate 40 0 ∷ [] ∷ []) ≡ 10
   pub P4 : sizesOf (balance (alike 1) (alike 3) (share 30 3) one32 (replicate 30 0 ∷ [] ∷ [] ∷ [])) ≡ 20 ∷ 10 ∷ 0 ∷ []
-  pub P5 : labels one32 one32 one32 ≡ accepted (0 ∷ [])
-  pub P6 : labels two32 nan two32 ≡ accepted (1 ∷ [])
-  pub P7 : labels nan one32 two32 ≡ accepted (0 ∷ [])
+  pub P5 : labels Strict one32 one32 one32 ≡ accepted (0 ∷ [])
+  pub P6 : labels Strict two32 nan two32 ≡ accepted (1 ∷ [])
+  -- this is the old way (02 (iii)); the new way refuses it
+  pub P7 : labels OldWay nan one32 two32 ≡ accepted (0 ∷ [])
+  pub P7-strict : labels Strict nan one32 two32 ≡ refused 9
   -- and 02 (ii) says of it that it matched nothing
-  pub P7-unplaced : labelCall 1 1 2 (nan ∷ []) (one32 ∷ two32 ∷ []) 1 1 ≡ accepted (Unplaced ∷ [])
+  pub P7-unplaced : labelCall OldWay 1 1 2 (nan ∷ []) (one32 ∷ two32 ∷ []) 1 1 ≡ accepted (Unplaced ∷ [])
   -- the third centroid is at -1
   pub P8 : closureCall zero32 3 1 3 (zero32 ∷ []) (two32 ∷ one32 ∷ fin true 1 (pos 0) ∷ []) 3 ≡ accepted (1 ∷ 2 ∷ [])
   pub P8-wide : closureCall one32 3 1 3 (zero32 ∷ []) (two32 ∷ one32 ∷ fin true 1 (pos 0) ∷ []) 3 ≡ accepted (1 ∷ 2 ∷ 0 ∷ [])
   pub P9 : closureCall one32 0 1 3 (zero32 ∷ []) (two32 ∷ one32 ∷ fin true 1 (pos 0) ∷ []) 3 ≡ accepted []
-  pub P10 : kmeansCall 2 1 1 usual (0 ∷ []) (zero32 ∷ one32 ∷ []) (KMeans·lengthsOf 2 1 1)
+  pub P10 : kmeansCall Strict 2 1 1 usual (0 ∷ []) (zero32 ∷ one32 ∷ []) (KMeans·lengthsOf 2 1 1)
       ≡ accepted (record { labels = 0 ∷ 0 ∷ []; centroids = (half ∷ []) ∷ []; objective = half; restart = 0; unplaced = 0 })
-  -- 01 gives no readings and no weight here: whatever they are
+  -- a NaN among three rows that are split: k-means leaves it unplaced (02 (iii))
+  pub lost-split : batch (nan ∷ one32 ∷ two32 ∷ []) 2 2 zero32 1 ≡ refused 9
+  -- 01 gives no readings and no weight here: whatever they are. So 6 and 7 come before 9, and a batch within the limit is accepted, NaN or not (02 (iii))
   pub P11 : (a b c weight : Float) → batch (a ∷ b ∷ c ∷ []) 2 4 weight 0 ≡ refused 6
   pub P12 : (a b c weight : Float) → batch (a ∷ b ∷ c ∷ []) 2 2 weight 0 ≡ refused 7
   pub P12-two-rows : (a b weight : Float) → batch (a ∷ b ∷ []) 2 2 weight 0 ≡ grouped ((0 ∷ 1 ∷ []) ∷ []) 0

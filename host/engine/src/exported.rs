@@ -9,8 +9,20 @@ pub use crate::work::{GroupWork, KMeansWork};
 /// The most rows that a call takes.
 const MOST_ROWS: u32 = 4_096;
 
-extern "C" {
-    fn families_label(
+/// Declares an exported function, which is strict, and the one of the same signature whose name says that it is the old way.
+macro_rules! two_ways {
+    ($strict:ident, $old_way:ident, ($($name:ident: $type:ty),* $(,)?)) => {
+        extern "C" {
+            fn $strict($($name: $type),*) -> u32;
+            fn $old_way($($name: $type),*) -> u32;
+        }
+    };
+}
+
+two_ways!(
+    families_label,
+    families_label_old_way,
+    (
         dim: u32,
         k: u32,
         row: *const u8,
@@ -19,22 +31,13 @@ extern "C" {
         centroid_bytes: usize,
         result: *mut u8,
         result_bytes: usize,
-    ) -> u32;
+    )
+);
 
-    fn families_closure(
-        dim: u32,
-        count: u32,
-        max_replicas: u16,
-        epsilon: f32,
-        vector: *const u8,
-        vector_bytes: usize,
-        centroids: *const u8,
-        centroid_bytes: usize,
-        result: *mut u8,
-        result_bytes: usize,
-    ) -> u32;
-
-    fn families_label_rows(
+two_ways!(
+    families_label_rows,
+    families_label_rows_old_way,
+    (
         rows: u32,
         dim: u32,
         k: u32,
@@ -45,9 +48,13 @@ extern "C" {
         labels: *mut u16,
         label_cells: usize,
         unplaced: *mut u32,
-    ) -> u32;
+    )
+);
 
-    fn families_place_rows(
+two_ways!(
+    families_place_rows,
+    families_place_rows_old_way,
+    (
         rows: u32,
         dim: u32,
         k: u32,
@@ -60,9 +67,13 @@ extern "C" {
         distances: *mut f32,
         distance_cells: usize,
         unplaced: *mut u32,
-    ) -> u32;
+    )
+);
 
-    fn families_kmeans(
+two_ways!(
+    families_kmeans,
+    families_kmeans_old_way,
+    (
         rows: u32,
         dim: u32,
         k: u32,
@@ -83,9 +94,13 @@ extern "C" {
         unplaced: *mut u32,
         training: *mut f32,
         training_cells: usize,
-    ) -> u32;
+    )
+);
 
-    fn families_group(
+two_ways!(
+    families_group,
+    families_group_old_way,
+    (
         rows: u32,
         dim: u32,
         limit: u32,
@@ -109,15 +124,43 @@ extern "C" {
         gathered_cells: usize,
         training: *mut f32,
         training_cells: usize,
+    )
+);
+
+extern "C" {
+    fn families_closure(
+        dim: u32,
+        count: u32,
+        max_replicas: u16,
+        epsilon: f32,
+        vector: *const u8,
+        vector_bytes: usize,
+        centroids: *const u8,
+        centroid_bytes: usize,
+        result: *mut u8,
+        result_bytes: usize,
     ) -> u32;
 
     fn families_list(file: *const u8, file_bytes: usize, text: *mut u8, text_bytes: usize) -> u32;
 }
 
+/// What a call does about rows that are unplaced; every call that labels names its own.
+#[derive(Clone, Copy, Debug, PartialEq, Eq)]
+pub enum Mode {
+    /// It is refused by 9.
+    Strict,
+    /// They have label 0 and are counted, as before document 02's request (iii).
+    OldWay,
+}
+
 /// The label of one row, in two result bytes: 0, or the refusal's number.
-pub fn label(dim: u32, k: u32, row: &[u8], centroids: &[u8], result: &mut [u8]) -> u32 {
+pub fn label(mode: Mode, dim: u32, k: u32, row: &[u8], centroids: &[u8], result: &mut [u8]) -> u32 {
+    let exported = match mode {
+        Mode::Strict => families_label,
+        Mode::OldWay => families_label_old_way,
+    };
     stack::with(stack::LABEL, || unsafe {
-        families_label(
+        exported(
             dim,
             k,
             row.as_ptr(),
@@ -165,6 +208,7 @@ pub struct LabelTold {
 
 /// The labels of many rows, over typed slices.
 pub fn label_rows(
+    mode: Mode,
     rows: u32,
     dim: u32,
     k: u32,
@@ -174,8 +218,12 @@ pub fn label_rows(
 ) -> LabelTold {
     // A figure that no call gives, so that one which the callee leaves alone shows; below likewise.
     let mut unplaced = u32::MAX;
+    let exported = match mode {
+        Mode::Strict => families_label_rows,
+        Mode::OldWay => families_label_rows_old_way,
+    };
     let number = stack::with(stack::LABEL_ROWS, || unsafe {
-        families_label_rows(
+        exported(
             rows,
             dim,
             k,
@@ -192,7 +240,9 @@ pub fn label_rows(
 }
 
 /// As `label_rows`, with each row's distance in a cell beside its label.
+#[allow(clippy::too_many_arguments)]
 pub fn place_cells(
+    mode: Mode,
     rows: u32,
     dim: u32,
     k: u32,
@@ -202,8 +252,12 @@ pub fn place_cells(
     distances: &mut [f32],
 ) -> LabelTold {
     let mut unplaced = u32::MAX;
+    let exported = match mode {
+        Mode::Strict => families_place_rows,
+        Mode::OldWay => families_place_rows_old_way,
+    };
     let number = stack::with(stack::PLACE_ROWS, || unsafe {
-        families_place_rows(
+        exported(
             rows,
             dim,
             k,
@@ -223,6 +277,7 @@ pub fn place_cells(
 
 /// Where each of the rows is placed, or the refusal's number.
 pub fn place_rows(
+    mode: Mode,
     rows: u32,
     dim: u32,
     k: u32,
@@ -233,7 +288,16 @@ pub fn place_rows(
     let cells = rows.min(MOST_ROWS) as usize;
     let mut labels = vec![0; cells];
     let mut distances = vec![0.0; cells];
-    let told = place_cells(rows, dim, k, values, centroids, &mut labels, &mut distances);
+    let told = place_cells(
+        mode,
+        rows,
+        dim,
+        k,
+        values,
+        centroids,
+        &mut labels,
+        &mut distances,
+    );
     match told.number {
         0 => Ok(placement::of_cells(&labels, &distances)),
         number => Err(number),
@@ -264,6 +328,7 @@ pub struct KMeansTold {
 
 /// K-means over typed slices.
 pub fn kmeans(
+    mode: Mode,
     numbers: KMeansNumbers,
     draws: &[u32],
     values: &[f32],
@@ -274,8 +339,12 @@ pub fn kmeans(
     let mut objective = f64::NAN;
     let mut restart = u32::MAX;
     let mut unplaced = u32::MAX;
+    let exported = match mode {
+        Mode::Strict => families_kmeans,
+        Mode::OldWay => families_kmeans_old_way,
+    };
     let number = stack::with(stack::KMEANS, || unsafe {
-        families_kmeans(
+        exported(
             numbers.rows,
             numbers.dim,
             numbers.k,
@@ -328,7 +397,9 @@ pub struct GroupTold {
 }
 
 /// Grouping over typed slices.
+#[allow(clippy::too_many_arguments)]
 pub fn group(
+    mode: Mode,
     numbers: GroupNumbers,
     draws: &[u32],
     values: &[f32],
@@ -340,8 +411,12 @@ pub fn group(
     let mut groups = u32::MAX;
     let mut splits = u32::MAX;
     let mut unplaced = u32::MAX;
+    let exported = match mode {
+        Mode::Strict => families_group,
+        Mode::OldWay => families_group_old_way,
+    };
     let number = stack::with(stack::GROUP, || unsafe {
-        families_group(
+        exported(
             numbers.rows,
             numbers.dim,
             numbers.limit,
@@ -375,7 +450,7 @@ pub fn group(
     }
 }
 
-/// The listing of a batch file: how many bytes it has, and as many of them as there is room for.
+/// The listing of a batch file, which is grouped in the strict mode: how many bytes it has, and as many of them as there is room for.
 pub fn list(file: &[u8], text: &mut [u8]) -> u32 {
     stack::with(stack::LIST, || unsafe {
         families_list(file.as_ptr(), file.len(), text.as_mut_ptr(), text.len())

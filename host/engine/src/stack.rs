@@ -7,7 +7,7 @@ use std::panic::resume_unwind;
 use std::ptr::null_mut;
 use std::thread;
 
-/// The stack that a thread has to be made with for calls of `families_label`; the others likewise.
+/// The stack that a thread has to be made with for calls of `families_label`, or of its old way; the others likewise.
 pub const LABEL: usize = 128 << 10;
 pub const CLOSURE: usize = 128 << 10;
 pub const LABEL_ROWS: usize = 128 << 10;
@@ -17,13 +17,18 @@ pub const GROUP: usize = 256 << 10;
 pub const LIST: usize = 640 << 10;
 
 /// All of them by the names of the functions.
-pub const STATED: [(&str, usize); 7] = [
+pub const STATED: [(&str, usize); 12] = [
     ("families_label", LABEL),
+    ("families_label_old_way", LABEL),
     ("families_closure", CLOSURE),
     ("families_label_rows", LABEL_ROWS),
+    ("families_label_rows_old_way", LABEL_ROWS),
     ("families_place_rows", PLACE_ROWS),
+    ("families_place_rows_old_way", PLACE_ROWS),
     ("families_kmeans", KMEANS),
+    ("families_kmeans_old_way", KMEANS),
     ("families_group", GROUP),
+    ("families_group_old_way", GROUP),
     ("families_list", LIST),
 ];
 

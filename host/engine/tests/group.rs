@@ -1,8 +1,9 @@
 //! Grouping through its exported function: document 01's examples, and what is left in every lent cell.
 
-use engine::exported::{group, GroupNumbers, GroupTold, GroupWork};
+use engine::exported::{group, GroupNumbers, GroupTold, GroupWork, Mode};
 
 /// A call of rows of one reading with draws of zero, and what it left; every lent cell comes full of stale values.
+#[derive(Debug, PartialEq)]
 struct Call {
     told: GroupTold,
     order: Vec<u16>,
@@ -25,11 +26,12 @@ fn numbers(rows: usize, limit: u32, branching: u32, weight: f32, budget: u32) ->
     }
 }
 
-fn call(values: &[f32], numbers: GroupNumbers, work: &mut GroupWork) -> Call {
+fn call(mode: Mode, values: &[f32], numbers: GroupNumbers, work: &mut GroupWork) -> Call {
     let mut order = vec![STALE_CELL; values.len()];
     let mut ends = vec![STALE_CELL; values.len()];
     let mut means = vec![STALE_FLOAT; values.len()];
     let told = group(
+        mode,
         numbers,
         &[0],
         values,
@@ -47,10 +49,21 @@ fn call(values: &[f32], numbers: GroupNumbers, work: &mut GroupWork) -> Call {
     }
 }
 
-fn fitting(values: &[f32], limit: u32, branching: u32, weight: f32, budget: u32) -> Call {
+fn fitting_in(mode: Mode, values: &[f32], limit: u32, weight: f32, budget: u32) -> Call {
     let mut work = GroupWork::new(values.len(), 1, STALE_FLOAT);
+    let numbers = numbers(values.len(), limit, 2, weight, budget);
+    call(mode, values, numbers, &mut work)
+}
+
+/// Of rows that are all placed: both modes give the same.
+fn fitting(values: &[f32], limit: u32, branching: u32, weight: f32, budget: u32) -> Call {
     let numbers = numbers(values.len(), limit, branching, weight, budget);
-    call(values, numbers, &mut work)
+    let [strict, old] = [Mode::Strict, Mode::OldWay].map(|mode| {
+        let mut work = GroupWork::new(values.len(), 1, STALE_FLOAT);
+        call(mode, values, numbers, &mut work)
+    });
+    assert_eq!(strict, old);
+    strict
 }
 
 /// Of a call that places all rows.
@@ -105,15 +118,32 @@ fn p11_and_p12_and_no_split_at_all() {
 
 /// Rows that nothing places, parted by balancing alone: four rows, then three of them, then two.
 #[test]
-fn unplaced_rows_count_in_every_split() {
-    let call = fitting(&[f32::NAN; 4], 1, 2, 0.5, 9);
+fn unplaced_rows_count_in_every_split_of_the_old_way() {
+    let old_way = |limit, budget| fitting_in(Mode::OldWay, &[f32::NAN; 4], limit, 0.5, budget);
     let counted = GroupTold {
         unplaced: 4 + 3 + 2,
         ..told(4, 3)
     };
-    assert_eq!(call.told, counted);
-    assert_eq!(fitting(&[f32::NAN; 4], 4, 2, 0.5, 9).told, told(1, 0));
-    assert_refused(&fitting(&[f32::NAN; 4], 1, 2, 0.5, 2), 7);
+    assert_eq!(old_way(1, 9).told, counted);
+    assert_eq!(old_way(4, 9).told, told(1, 0));
+    assert_refused(&old_way(1, 2), 7);
+}
+
+#[test]
+fn unplaced_rows_are_refused_by_9_in_the_strict_mode() {
+    let strict =
+        |values: &[f32], limit, budget| fitting_in(Mode::Strict, values, limit, 0.5, budget);
+    assert_refused(&strict(&[f32::NAN; 4], 1, 9), 9);
+    // Where the budget ends later, and where it has ended; and where nothing is split.
+    assert_refused(&strict(&[f32::NAN; 4], 1, 2), 9);
+    assert_refused(&strict(&[f32::NAN; 4], 1, 0), 7);
+    assert_eq!(strict(&[f32::NAN; 4], 4, 9).told, told(1, 0));
+    assert_refused(&strict(&[f32::NAN], 0, 9), 6);
+    // The first split places all rows, and the second cannot.
+    let large = [1.5e19, -1.5e19, 1.5e19, -1.5e19, 1.5e19, -1.5e19];
+    assert_refused(&strict(&large, 1, 9), 9);
+    assert_refused(&strict(&large, 1, 1), 7);
+    assert_eq!(strict(&large, 4, 9).told, told(2, 1));
 }
 
 #[test]
@@ -141,6 +171,6 @@ fn each_work_slice_of_another_length_is_refused_by_2() {
         let mut work = GroupWork::new(values.len(), 1, STALE_FLOAT);
         change(&mut work);
         let numbers = numbers(values.len(), 2, 2, 0.0, 4);
-        assert_refused(&call(&values, numbers, &mut work), 2);
+        assert_refused(&call(Mode::Strict, &values, numbers, &mut work), 2);
     }
 }

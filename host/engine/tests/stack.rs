@@ -3,7 +3,7 @@
 use std::thread;
 
 use engine::exported::{self, GroupNumbers, GroupTold, GroupWork, KMeansNumbers, KMeansWork};
-use engine::exported::{LabelTold, Placement};
+use engine::exported::{LabelTold, Mode, Placement};
 use engine::stack;
 
 /// Less than any call takes. The system may hand a new thread the stack of one that ended, of up to four times the size: those of the
@@ -11,6 +11,8 @@ use engine::stack;
 const SMALL: usize = 24 << 10;
 
 const VALUES: [f32; 4] = [0.0, 1.0, 10.0, 11.0];
+
+const MODES: [Mode; 2] = [Mode::Strict, Mode::OldWay];
 
 fn on_small_thread<T: Send + 'static>(call: fn() -> T) -> T {
     let builder = thread::Builder::new().stack_size(SMALL);
@@ -27,10 +29,13 @@ fn label() {
     let told = on_small_thread(|| {
         let mut result = [0; 2];
         let centroids = bytes(&[5.0, 2.0, 7.0]);
-        let number = exported::label(1, 3, &bytes(&[2.5]), &centroids, &mut result);
-        (number, result)
+        let row = bytes(&[2.5]);
+        MODES.map(|mode| {
+            let number = exported::label(mode, 1, 3, &row, &centroids, &mut result);
+            (number, result)
+        })
     });
-    assert_eq!(told, (0, [1, 0]));
+    assert_eq!(told, [(0, [1, 0]); 2]);
 }
 
 #[test]
@@ -48,19 +53,23 @@ fn closure() {
 fn label_rows() {
     let told = on_small_thread(|| {
         let mut labels = [9; 4];
-        let told = exported::label_rows(4, 1, 2, &VALUES, &[9.0, 2.0], &mut labels);
-        (told, labels)
+        MODES.map(|mode| {
+            let told = exported::label_rows(mode, 4, 1, 2, &VALUES, &[9.0, 2.0], &mut labels);
+            (told, labels)
+        })
     });
     let expected = LabelTold {
         number: 0,
         unplaced: 0,
     };
-    assert_eq!(told, (expected, [1, 1, 0, 0]));
+    assert_eq!(told, [(expected, [1, 1, 0, 0]); 2]);
 }
 
 #[test]
 fn place_rows() {
-    let told = on_small_thread(|| exported::place_rows(4, 1, 2, &VALUES, &[9.0, 2.0]));
+    let told = on_small_thread(|| {
+        MODES.map(|mode| exported::place_rows(mode, 4, 1, 2, &VALUES, &[9.0, 2.0]))
+    });
     let placed = |label, distance| Placement::Placed { label, distance };
     let expected = [
         placed(1, 4.0),
@@ -68,7 +77,9 @@ fn place_rows() {
         placed(0, 1.0),
         placed(0, 4.0),
     ];
-    assert_eq!(told.as_deref(), Ok(&expected[..]));
+    for told in told {
+        assert_eq!(told.as_deref(), Ok(&expected[..]));
+    }
 }
 
 #[test]
@@ -83,19 +94,22 @@ fn kmeans() {
             points_per_centroid: 256,
             block: 32_768,
         };
-        let (mut labels, mut centroids) = ([9; 4], [9.0; 2]);
-        let work = &mut KMeansWork::new(4, 1, 9.0);
-        let told = exported::kmeans(numbers, &[0], &VALUES, &mut labels, &mut centroids, work);
-        assert!(work.is_zero(), "the work slice ends all zero");
-        assert_eq!(told.unplaced, 0);
-        (told.number, told.objective, told.restart, labels, centroids)
+        MODES.map(|mode| {
+            let (mut labels, mut centroids) = ([9; 4], [9.0; 2]);
+            let work = &mut KMeansWork::new(4, 1, 9.0);
+            let lent = (&mut labels, &mut centroids);
+            let told = exported::kmeans(mode, numbers, &[0], &VALUES, lent.0, lent.1, work);
+            assert!(work.is_zero(), "the work slice ends all zero");
+            assert_eq!(told.unplaced, 0);
+            (told.number, told.objective, told.restart, labels, centroids)
+        })
     });
-    assert_eq!(told, (0, 1.0, 0, [0, 0, 1, 1], [0.5, 10.5]));
+    assert_eq!(told, [(0, 1.0, 0, [0, 0, 1, 1], [0.5, 10.5]); 2]);
 }
 
 #[test]
 fn group() {
-    let (told, order, ends, means) = on_small_thread(|| {
+    let both = on_small_thread(|| {
         let numbers = GroupNumbers {
             rows: 4,
             dim: 1,
@@ -104,12 +118,14 @@ fn group() {
             weight: 0.0,
             budget: 4,
         };
-        let (mut order, mut ends, mut means) = ([9; 4], [9; 4], [9.0; 4]);
-        let work = &mut GroupWork::new(4, 1, 9.0);
-        let lent = (&mut order, &mut ends, &mut means);
-        let told = exported::group(numbers, &[0], &VALUES, lent.0, lent.1, lent.2, work);
-        assert!(work.is_zero(), "work slices end all zero");
-        (told, order, ends, means)
+        MODES.map(|mode| {
+            let (mut order, mut ends, mut means) = ([9; 4], [9; 4], [9.0; 4]);
+            let work = &mut GroupWork::new(4, 1, 9.0);
+            let lent = (&mut order, &mut ends, &mut means);
+            let told = exported::group(mode, numbers, &[0], &VALUES, lent.0, lent.1, lent.2, work);
+            assert!(work.is_zero(), "work slices end all zero");
+            (told, order, ends, means)
+        })
     });
     let expected = GroupTold {
         number: 0,
@@ -117,9 +133,11 @@ fn group() {
         splits: 1,
         unplaced: 0,
     };
-    assert_eq!(told, expected);
-    assert_eq!((order, ends), ([2, 3, 0, 1], [2, 4, 65_535, 65_535]));
-    assert_eq!(means, [10.5, 0.5, 0.0, 0.0]);
+    for (told, order, ends, means) in both {
+        assert_eq!(told, expected);
+        assert_eq!((order, ends), ([2, 3, 0, 1], [2, 4, 65_535, 65_535]));
+        assert_eq!(means, [10.5, 0.5, 0.0, 0.0]);
+    }
 }
 
 #[test]

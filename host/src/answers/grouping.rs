@@ -1,6 +1,6 @@
 //! Grouping through the exported function: 4,096 meters of 64 readings, with no file in between.
 
-use engine::exported::{group, GroupNumbers, GroupWork};
+use engine::exported::{group, GroupNumbers, GroupWork, Mode};
 
 use super::draws::Draws;
 use super::report::{Family, Grouping};
@@ -8,7 +8,12 @@ use super::settings::Settings;
 use crate::reading::table::Table;
 
 /// The families of a table's rows, or the refusal's number.
-pub fn families(table: &Table, settings: Settings, draws: Draws) -> Result<Grouping, u32> {
+pub fn families(
+    mode: Mode,
+    table: &Table,
+    settings: Settings,
+    draws: Draws,
+) -> Result<Grouping, u32> {
     let (rows, dim) = (table.rows, table.readings);
     let numbers = GroupNumbers {
         rows: rows as u32,
@@ -22,6 +27,7 @@ pub fn families(table: &Table, settings: Settings, draws: Draws) -> Result<Group
     let mut ends = vec![0; rows];
     let mut means = vec![0.0; rows * dim];
     let told = group(
+        mode,
         numbers,
         &draws.numbers(),
         &table.values,
@@ -72,7 +78,8 @@ mod tests {
             weight: 0.0,
             budget,
         };
-        families(&table, settings, Draws { seed: 1, count: 3 })
+        let draws = Draws { seed: 1, count: 3 };
+        families(Mode::Strict, &table, settings, draws)
     }
 
     #[test]
@@ -97,9 +104,11 @@ mod tests {
             budget: 9,
         };
         let draws = Draws { seed: 1, count: 3 };
-        let grouping = families(&table(1, &[2e19; 4]), settings, draws).unwrap();
+        let table = table(1, &[2e19; 4]);
+        let grouping = families(Mode::OldWay, &table, settings, draws).unwrap();
         // Balancing alone parts them: four rows, then three of them, then two.
         assert_eq!((grouping.splits, grouping.unplaced), (3, 4 + 3 + 2));
+        assert_eq!(families(Mode::Strict, &table, settings, draws), Err(9));
     }
 
     #[test]

@@ -1,6 +1,6 @@
 //! Rows against given centroids: what the exported functions take is made here, and a refusal is an error.
 
-use engine::exported::{self, Placement};
+use engine::exported::{self, Mode, Placement};
 
 fn bytes(values: &[f32]) -> Vec<u8> {
     let each = values.iter();
@@ -32,9 +32,9 @@ impl Centroids {
         }
     }
 
-    /// Where each of the rows is placed, or the refusal's number.
+    /// Where each of the rows is placed, or the refusal's number. By the old way, since an unplaced row is an answer here.
     pub fn place(&self, dim: u32, rows: u32, values: &[f32]) -> Result<Vec<Placement>, u32> {
-        exported::place_rows(rows, dim, self.count, values, &self.values)
+        exported::place_rows(Mode::OldWay, rows, dim, self.count, values, &self.values)
     }
 
     /// The centroids that one row is offered, closest first, or the refusal's number.

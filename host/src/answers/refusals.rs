@@ -1,4 +1,4 @@
-//! What a refusal of document 01 was about, in the caller's own numbers, and what to change.
+//! What a refusal of documents 01 and 02 was about, in the caller's own numbers, and what to change.
 
 use std::collections::HashMap;
 use std::ops::RangeInclusive;
@@ -22,6 +22,7 @@ pub fn of_grouping(number: u32, rows: &Table, settings: Settings, draws: usize) 
         4 => out_of_range(&[("the number of draws", draws, DRAWS)]),
         6 => too_few_rows(rows.rows, settings),
         7 => spent(rows, settings),
+        9 => unplaced(rows),
         other => unknown(other),
     }
 }
@@ -134,6 +135,29 @@ fn stubborn(rows: &Table, settings: Settings) -> String {
         false => " or a weight above 0, which parts meters that are nearly alike",
     };
     format!("take a larger budget (up to 8192), another seed, a larger limit{weight}")
+}
+
+/// The engine tells no row. One whose own sum of squares is not finite is in the first group that is split, and matches nothing there; where
+/// there is none, the squares of a meter and of every centroid overflow together.
+fn unplaced(rows: &Table) -> String {
+    let hopeless = meters_without_sum(rows);
+    let cause = match hopeless.is_empty() {
+        true => "it finds that each meter's squares add up to a number, so that they overflow only together with those of the centroids; divide all readings by one number before grouping".to_string(),
+        false => format!(
+            "it finds that no centroid can match {}, whose squares add up to infinity or to no number; leave out readings that are not finite, and divide all readings by one number where squares overflow",
+            hopeless.join(", ")
+        ),
+    };
+    format!("some meter matched no part of a split, so that nothing says which family it belongs to; the engine does not tell which meter, so this program summed the squares itself: {cause}; --allow-unplaced of `group` and `page` groups such meters all the same, as label 0, and counts them")
+}
+
+/// The meters whose sum of squares is infinite or no number, summed as the engine does: in 32 bits, from the first reading to the last, each
+/// square rounded before it is added. All of them, since an operator has to find each.
+fn meters_without_sum(rows: &Table) -> Vec<String> {
+    let sum = |row: &[f32]| row.iter().fold(0.0f32, |sum, value| sum + value * value);
+    let is_hopeless = |row: &usize| !sum(rows.row(*row)).is_finite();
+    let hopeless = (0..rows.rows).filter(is_hopeless);
+    hopeless.map(|row| rows.name(row)).collect()
 }
 
 /// Each split makes one group into at most `branching`, and every family has at most `limit` rows.
@@ -272,6 +296,45 @@ mod tests {
             &told(&huge, settings(2, 2, 0.0, 9)),
             &["3 meters", "overflow"],
         );
+    }
+
+    #[test]
+    fn meters_that_no_centroid_matches_are_named() {
+        let told =
+            |dim, values: &[f32]| of_grouping(9, &table(dim, values), settings(2, 2, 0.0, 9), 1);
+        let two = told(2, &[1.0, 2.0, 1.5e19, 1.5e19, 0.0, f32::NAN, 1e19, 1e19]);
+        assert_has(
+            &two,
+            &[
+                "matched no part of a split",
+                "the engine does not tell which meter, so this program summed",
+                "no centroid can match 1, 2, whose",
+                "--allow-unplaced of `group` and `page`",
+            ],
+        );
+        // Each of them has a sum, which overflows when it is added to itself.
+        let none = told(1, &[1.5e19, 1.5e19, -1.5e19]);
+        let words = [
+            "the engine does not tell",
+            "each meter's squares add up to a number",
+            "--allow-unplaced",
+        ];
+        assert_has(&none, &words);
+        assert!(!none.contains("can match"), "{none}");
+        let many = told(1, &[f32::INFINITY; 25]);
+        assert_has(&many, &["match 0, 1, 2, ", ", 23, 24, whose"]);
+    }
+
+    /// The squares of the first row are lost one by one behind the large one; in front of it they add up to what overflows.
+    #[test]
+    fn squares_are_summed_ascending_and_in_32_bits() {
+        let (large, small) = (f32::from_bits(0x5f7f_ffff), 3.15e15);
+        let falling = [large, small, small, small, small];
+        let mut values = falling.to_vec();
+        values.extend(falling.iter().rev());
+        let wide: f64 = falling.iter().map(|value| f64::from(*value).powi(2)).sum();
+        assert!(wide > f64::from(f32::MAX));
+        assert_eq!(meters_without_sum(&table(5, &values)), ["1"]);
     }
 
     #[test]

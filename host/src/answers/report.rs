@@ -38,6 +38,8 @@ pub struct Report {
     pub draws: Draws,
     /// Meters to a tray.
     pub tray: usize,
+    /// Whether unplaced rows were asked for, and not refused.
+    pub allow_unplaced: bool,
     pub grouping: Grouping,
     pub warnings: Vec<String>,
 }
@@ -86,6 +88,7 @@ pub mod tests {
                 count: 3,
             },
             tray: 2,
+            allow_unplaced: false,
             grouping: Grouping {
                 families: vec![family(&[2, 0], [0.5, 0.1]), family(&[1], [-0.25, 3.0])],
                 splits: 1,

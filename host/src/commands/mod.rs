@@ -30,7 +30,7 @@ pub struct Program {
 
 const AFTER: &str = "\
 Rows, families and centroids are counted from 0; trays, places, lines and columns from 1.
-Exit codes: 0 done; 1 refused, with the number of document 01 and what to change; 2 bad usage;
+Exit codes: 0 done; 1 refused, with the refusal's number and what to change; 2 bad usage;
 3 a CSV or batch file that does not hold what it should; 4 a program or file that could not be
 run, read or written.";
 

@@ -4,6 +4,7 @@ use std::fs;
 use std::path::Path;
 
 use clap::{value_parser, Args};
+use engine::exported::Mode;
 
 use super::reading::{source, ReadingOptions};
 use crate::answers::draws::{any_seed, Draws};
@@ -126,14 +127,26 @@ pub struct ReportOptions {
     /// Meters to a tray, 1 to 4096: rows come tray after tray
     #[arg(long, value_name = "N", default_value = "40", value_parser = value_parser!(u32).range(1..=4_096))]
     tray: u32,
+
+    /// Group meters that match no part of a split too, as label 0, and tell how many; else such a batch is refused by 9
+    #[arg(long)]
+    allow_unplaced: bool,
 }
 
 impl ReportOptions {
+    fn mode(&self) -> Mode {
+        match self.allow_unplaced {
+            true => Mode::OldWay,
+            false => Mode::Strict,
+        }
+    }
+
     /// The report, and lines for standard error.
     pub fn report(&self) -> Result<(Report, Vec<String>), Failure> {
         let asked = self.grouping.read()?;
         let (table, settings, draws) = (asked.table, asked.settings, asked.draws);
-        let grouping = grouping::families(&table, settings, draws).map_err(|number| {
+        let found = grouping::families(self.mode(), &table, settings, draws);
+        let grouping = found.map_err(|number| {
             let why = refusals::of_grouping(number, &table, settings, draws.count);
             // The seed may have been chosen, and another one may not be refused.
             Failure::refused(
@@ -148,6 +161,7 @@ impl ReportOptions {
             settings,
             draws,
             tray: self.tray as usize,
+            allow_unplaced: self.allow_unplaced,
             grouping,
             warnings: asked.warnings,
         };

@@ -36,6 +36,7 @@ struct Settings {
     seed: String,
     draws: usize,
     tray: usize,
+    allow_unplaced: bool,
 }
 
 #[derive(Serialize)]
@@ -105,6 +106,7 @@ fn settings(report: &Report) -> Settings {
         seed: report.draws.seed.to_string(),
         draws: report.draws.count,
         tray: report.tray,
+        allow_unplaced: report.allow_unplaced,
     }
 }
 
@@ -137,7 +139,8 @@ mod tests {
         assert_eq!(
             value["settings"],
             json!({"limit": 2, "branching": 2, "weight": 0.25, "budget": 4,
-                   "seed": "18446744073709551615", "draws": 3, "tray": 2})
+                   "seed": "18446744073709551615", "draws": 3, "tray": 2,
+                   "allow_unplaced": false})
         );
         assert_eq!((&value["meters"], &value["splits"]), (&json!(3), &json!(1)));
         assert_eq!(value["unplaced_rows_summed_over_splits"], 0);
@@ -152,9 +155,10 @@ mod tests {
     #[test]
     fn unplaced_rows_are_a_figure_of_their_own() {
         let mut report = report();
-        report.grouping.unplaced = 7;
+        (report.grouping.unplaced, report.allow_unplaced) = (7, true);
         let value = value(&report);
         assert_eq!(value["unplaced_rows_summed_over_splits"], 7);
+        assert_eq!(value["settings"]["allow_unplaced"], true);
         assert_eq!(value["meters"], 3);
     }
 

@@ -66,6 +66,7 @@ fn json_has_everything() {
     assert_eq!(whole["families"][0]["mean"], serde_json::json!([10.5]));
     assert_eq!(whole["families"][0]["meters"][0]["serial"], "C3");
     assert_eq!(whole["unplaced_rows_summed_over_splits"], 0);
+    assert_eq!(whole["settings"]["allow_unplaced"], false);
     assert_eq!(whole["warnings"], serde_json::json!([]));
 }
 
@@ -74,27 +75,97 @@ fn json_has_everything() {
 fn unplaced_rows_are_summed_over_splits() {
     let folder = Folder::new("group_unplaced");
     let csv = numbered(4, |row| 2e19 + row as f32 * 1e18);
-    let words = "--limit 1 --branching 2 --weight 0.5 --seed 1";
+    let words = "--limit 1 --branching 2 --weight 0.5 --seed 1 --allow-unplaced";
     let run = group(&folder, &csv, words);
     let begins = "4 families, 4 meters, 3 splits\nunplaced rows, summed over splits: 9\nfamily 0, ";
     assert!(run.text().starts_with(begins), "{run:?}");
     let run = group(&folder, &csv, &format!("{words} --format json"));
     let whole: serde_json::Value = serde_json::from_str(run.text()).unwrap();
     assert_eq!(whole["unplaced_rows_summed_over_splits"], 9);
-    let page = folder.run(&[
-        "page",
-        "r.csv",
-        "--limit",
-        "1",
-        "--branching",
-        "2",
-        "--weight",
-        "0.5",
-        "--seed",
-        "1",
-    ]);
+    assert_eq!(whole["settings"]["allow_unplaced"], true);
+    let run = group(&folder, &csv, &format!("{words} --format csv"));
+    assert_eq!(run.text().lines().count(), 1 + 4);
+    let page: Vec<&str> = ["page", "r.csv"]
+        .into_iter()
+        .chain(words.split(' '))
+        .collect();
+    let page = folder.run(&page);
     let fact = "<dt>unplaced rows, summed over splits</dt><dd>9</dd>";
     assert!(page.text().contains(fact));
+}
+
+/// The same four meters and one between them, without the flag: no format prints anything, and the message names the four.
+#[test]
+fn unplaced_rows_are_refused_unless_they_are_allowed() {
+    let folder = Folder::new("group_refused_unplaced");
+    let csv = format!(
+        "serial,error\n{}calm,0.5\n",
+        numbered(4, |row| 2e19 + row as f32 * 1e18)
+    );
+    let words = "--limit 1 --branching 2 --weight 0.5 --seed 1";
+    let told = [
+        "r.csv: refused 9: some meter matched no part of a split",
+        "the engine does not tell which meter, so this program summed",
+        "no centroid can match M0, M1, M2, M3, whose",
+        "--allow-unplaced",
+        "(seed 1)",
+    ];
+    for format in ["text", "csv", "json"] {
+        let run = group(&folder, &csv, &format!("{words} --format {format}"));
+        run.fails(1, &told);
+        assert!(!run.errors.contains("calm"), "{run:?}");
+    }
+    let files = "--means m.csv --output f.txt";
+    group(&folder, &csv, &format!("{words} {files}")).fails(1, &told);
+    let page: Vec<&str> = ["page", "r.csv"]
+        .into_iter()
+        .chain(words.split(' '))
+        .collect();
+    folder.run(&page).fails(1, &told);
+    let names = fs::read_dir(folder.path()).unwrap().count();
+    assert_eq!(names, 1, "only r.csv is there");
+}
+
+/// What is refused for a split is no matter where there is none, and 6 and 7 come first.
+#[test]
+fn unplaced_rows_are_refused_only_where_they_are_split() {
+    let folder = Folder::new("group_refused_order");
+    let csv = numbered(4, |row| 2e19 + row as f32 * 1e18);
+    let begins = "1 families, 4 meters, 0 splits\nunplaced rows, summed over splits: 0\n";
+    for words in ["--limit 4 --seed 1", "--limit 4 --seed 1 --allow-unplaced"] {
+        assert!(group(&folder, &csv, words).text().starts_with(begins));
+    }
+    group(&folder, &csv, "--limit 3 --branching 5").fails(1, &["refused 6: "]);
+    group(&folder, &csv, "--limit 3 --branching 2 --budget 0").fails(1, &["refused 7: "]);
+    group(&folder, &csv, "--limit 3 --branching 2").fails(1, &["refused 9: "]);
+}
+
+/// Each square is finite and none can be added to another: the message finds nobody to name, and says so.
+#[test]
+fn a_refusal_by_9_without_a_name() {
+    let folder = Folder::new("group_refused_unnamed");
+    let csv = numbered(4, |_| 1.5e19);
+    let words = "--limit 1 --branching 2 --weight 0.5 --seed 1";
+    let told = [
+        "refused 9: ",
+        "each meter's squares add up to a number",
+        "--allow-unplaced",
+    ];
+    group(&folder, &csv, words).fails(1, &told);
+    let allowed = group(&folder, &csv, &format!("{words} --allow-unplaced"));
+    let second = allowed.text().lines().nth(1);
+    assert_eq!(second, Some("unplaced rows, summed over splits: 9"));
+}
+
+/// Without unplaced rows the flag changes nothing.
+#[test]
+fn the_flag_alone_changes_nothing() {
+    let folder = Folder::new("group_flag");
+    for format in ["text", "csv"] {
+        let plain = p1(&folder, &format!("--format {format}"));
+        let allowed = p1(&folder, &format!("--format {format} --allow-unplaced"));
+        assert_eq!(plain.text(), allowed.text());
+    }
 }
 
 #[test]
@@ -377,14 +448,27 @@ fn group_and_the_listing_program_refuse_alike() {
     let folder = Folder::new("group_and_list_refused");
     let listing = listing(&folder);
     let csv = "serial,low\nA,0.5\nB,1.5\nC,2.5\n";
-    for (settings, number) in [
+    let large = "serial,low\nA,0.5\nB,2e19\nC,2.5\n";
+    for (csv, settings, number) in [
         (
+            csv,
             "--limit 2 --branching 4 --seed 1",
             "refused 6: a group of 3 rows",
         ),
         (
+            csv,
             "--limit 2 --branching 2 --budget 0 --seed 1",
             "refused 7: a group above",
+        ),
+        (
+            large,
+            "--limit 2 --branching 2 --budget 0 --seed 1",
+            "refused 7: a group above",
+        ),
+        (
+            large,
+            "--limit 2 --branching 2 --seed 1",
+            "refused 9: some meter matched",
         ),
     ] {
         group(&folder, csv, settings).fails(1, &[number]);
@@ -395,6 +479,11 @@ fn group_and_the_listing_program_refuse_alike() {
             .run(&["list", "b.bin", "--listing", &listing])
             .fails(1, &[number]);
     }
+    // The last batch, by its serials.
+    let words = ["list", "b.bin", "--listing", &listing, "--serials", "r.csv"];
+    folder
+        .run(&words)
+        .fails(1, &["no centroid can match B, whose"]);
 }
 
 /// Under a terminal that `script` makes, with readings that come late: a person sees that it works, and a file of the output does not.

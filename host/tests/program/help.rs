@@ -47,6 +47,18 @@ fn help_states_the_defaults() {
 }
 
 #[test]
+fn unplaced_rows_are_allowed_where_families_are_shown() {
+    let folder = Folder::new("help_unplaced");
+    for command in COMMANDS {
+        let has = folder
+            .run(&[command, "-h"])
+            .text()
+            .contains("--allow-unplaced");
+        assert_eq!(has, ["group", "page"].contains(&command), "{command}");
+    }
+}
+
+#[test]
 fn the_version_is_printed() {
     let run = Folder::new("help_version").run(&["--version"]);
     assert_eq!(

@@ -71,6 +71,22 @@ fn a_refusal_ends_by_1_with_its_meaning() {
     let shapeless = folder("list_refused_8", "refused 8\n");
     shapeless.write("b.bin", "no batch");
     list(&shapeless, &[]).fails(1, &["refused 8: ", "8 bytes", "36"]);
+    // P1's meters all have sums; a batch with one that has none names it, by its serial where that is known.
+    let found = ["refused 9: ", "each meter's squares add up to a number"];
+    listed("list_refused_9", "refused 9\n").fails(1, &found);
+    let large = folder("list_refused_9_named", "refused 9\n");
+    large.write(
+        "r.csv",
+        "serial,error\nA1,0\n\"B 2\",2e19\nC3,10\nD4,-3e19\n",
+    );
+    large.write("b.bin", large.run(&["batch", "r.csv"]).bytes);
+    let named = [
+        "refused 9: ",
+        "match \"B 2\", D4, whose",
+        "--allow-unplaced of `group`",
+    ];
+    list(&large, &["--serials", "r.csv"]).fails(1, &named);
+    list(&large, &[]).fails(1, &["refused 9: ", "match 1, 3, whose"]);
     let folder = folder("list_refused_6", "refused 6\n");
     let words = ["list", "b.bin", "--listing", STAND_IN];
     let mut command = folder.command(&words);

@@ -18,13 +18,14 @@ pub const BUILT: &str = "target/bin/listing";
 /// No listing is longer.
 const ROOM: usize = 65_536;
 
-const NEEDS: [Need; 8] = [
+const NEEDS: [Need; 9] = [
     ("accepted", 100),
     ("refused 1", 10),
     ("refused 4", 10),
     ("refused 6", 10),
     ("refused 7", 10),
     ("refused 8", 50),
+    ("refused 9", 10),
     ("the longest file", 1),
     ("a file too long", 1),
 ];

@@ -1,6 +1,7 @@
 //! Hands the same cases to the oracle and to the proved library, and counts those that agree in every cell.
 //!
-//! `compare calls [SEED [TIMES]]`: generated calls of every exported function; TIMES multiplies their number.
+//! `compare calls [SEED [TIMES]]`: generated calls of every exported function, those that label in both modes; TIMES multiplies their
+//! number.
 //! `compare files [SEED [COUNT]] [-- PROGRAM..]`: whole batch files through the listing program.
 //! `compare hostile [SEED [COUNT]]`: COUNT calls of each function and COUNT files that nobody means well with, all in this process.
 //! `compare stack`: measures the stack that each exported function takes; `compare stack --stated` makes the same calls on threads of
@@ -21,17 +22,15 @@ use compare::tally::Tally;
 use oracle::cases::{ClosureBytesCase, GroupingCase, KMeansCase, LabelBytesCase, LabelCase};
 use oracle::cases::{PlaceCase, RestartsCase};
 
-/// The built cases and `count` generated ones of one kind.
-fn compare<C: Compared>(seed: u64, count: u64) -> Tally {
+/// The built cases and `count` generated ones of one kind, each added by `add`.
+fn compare<C: Compared>(seed: u64, count: u64, add: fn(&mut Tally, &str, &C)) -> Tally {
     let mut tally = Tally::default();
     for (number, case) in C::built().iter().enumerate() {
-        tally.add(&format!("built {number}"), case);
+        add(&mut tally, &format!("built {number}"), case);
     }
     for index in 0..count {
-        tally.add(
-            &format!("seed {seed} index {index}"),
-            &C::generate(seed, index),
-        );
+        let case = C::generate(seed, index);
+        add(&mut tally, &format!("seed {seed} index {index}"), &case);
     }
     tally.need(C::NAME, C::NEEDS);
     tally.report(C::NAME);
@@ -40,13 +39,13 @@ fn compare<C: Compared>(seed: u64, count: u64) -> Tally {
 
 fn calls(seed: u64, times: u64) -> Vec<Tally> {
     vec![
-        compare::<LabelBytesCase>(seed, 30_000 * times),
-        compare::<LabelCase>(seed, 25_000 * times),
-        compare::<PlaceCase>(seed, 25_000 * times),
-        compare::<ClosureBytesCase>(seed, 55_000 * times),
-        compare::<KMeansCase>(seed, 6_000 * times),
-        compare::<RestartsCase>(seed, 3_000 * times),
-        compare::<GroupingCase>(seed, 6_000 * times),
+        compare::<LabelBytesCase>(seed, 30_000 * times, Tally::add_both),
+        compare::<LabelCase>(seed, 25_000 * times, Tally::add_both),
+        compare::<PlaceCase>(seed, 25_000 * times, Tally::add_both),
+        compare::<ClosureBytesCase>(seed, 55_000 * times, Tally::add),
+        compare::<KMeansCase>(seed, 6_000 * times, Tally::add_both),
+        compare::<RestartsCase>(seed, 3_000 * times, Tally::add_both),
+        compare::<GroupingCase>(seed, 6_000 * times, Tally::add_both),
     ]
 }
 

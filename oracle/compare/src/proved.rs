@@ -1,10 +1,10 @@
 //! The oracle's cases, handed to the proved library.
 
 use engine::exported;
-use oracle::cases::{BytesOutcome, Case, ClosureBytesCase};
+use oracle::cases::{BytesOutcome, Case, ClosureBytesCase, TwoWays};
 use oracle::cases::{LabelBytesCase, LabelCase, LabelOutcome, PlaceCase, PlaceOutcome};
 use oracle::cases::{STALE_BYTE, STALE_CELL, STALE_FLOAT};
-use oracle::refusal::Refusal;
+use oracle::refusal::{Mode, Refusal};
 
 use crate::tally::{number_kind, Need};
 
@@ -41,6 +41,35 @@ pub trait Compared: Case {
     }
 }
 
+/// A case that the proved library can be handed in both modes. `proved` of it is the old way's, as `run` is.
+pub trait BothWays: Compared + TwoWays {
+    fn proved_in(&self, mode: Mode) -> Proved<Self::Outcome>;
+
+    /// What this case is there for in the strict mode, by the oracle's outcomes of both.
+    fn strict_kinds(&self, _old: &Self::Outcome, strict: &Self::Outcome) -> Vec<String> {
+        vec![strict_kind(&number_kind(Self::number(strict)))]
+    }
+}
+
+/// A kind of the strict mode, told from those of the old way.
+fn strict_kind(kind: &str) -> String {
+    format!("strict: {kind}")
+}
+
+/// The kind of the strict answer, and what else the case shows.
+fn strict_kinds(number: u32, shown: Vec<&str>) -> Vec<String> {
+    let kinds = kinds(number, shown);
+    kinds.iter().map(|kind| strict_kind(kind)).collect()
+}
+
+/// The same mode, as the wrappers name it.
+fn wrapped(mode: Mode) -> exported::Mode {
+    match mode {
+        Mode::Strict => exported::Mode::Strict,
+        Mode::OldWay => exported::Mode::OldWay,
+    }
+}
+
 /// Bytes that stand at any address, as a host may lend them, and end where their allocation ends.
 struct Shifted {
     by: usize,
@@ -61,13 +90,28 @@ impl Shifted {
 }
 
 impl Compared for LabelBytesCase {
-    const NEEDS: &'static [Need] = &[("accepted", 100), ("refused 1", 100), ("refused 2", 100)];
+    const NEEDS: &'static [Need] = &[
+        ("accepted", 100),
+        ("refused 1", 100),
+        ("refused 2", 100),
+        ("strict: accepted", 100),
+        ("strict: refused 1", 100),
+        ("strict: refused 2", 100),
+        ("strict: refused 9", 100),
+    ];
 
     fn proved(&self) -> Proved<BytesOutcome> {
+        self.proved_in(Mode::OldWay)
+    }
+}
+
+impl BothWays for LabelBytesCase {
+    fn proved_in(&self, mode: Mode) -> Proved<BytesOutcome> {
         let row = Shifted::new(&self.row, self.k as usize % 4);
         let centroids = Shifted::new(&self.centroids, self.dim as usize % 4);
         let mut result = vec![STALE_BYTE; self.result_bytes];
         let number = exported::label(
+            wrapped(mode),
             self.dim,
             self.k,
             row.bytes(),
@@ -114,11 +158,27 @@ impl Compared for LabelCase {
         ("a NaN centroid", 100),
         ("all rows unplaced", 100),
         ("unplaced rows beside family 0", 100),
+        ("strict: accepted", 100),
+        ("strict: refused 1", 100),
+        ("strict: refused 2", 100),
+        ("strict: refused 9", 100),
     ];
 
     fn proved(&self) -> Proved<LabelOutcome> {
+        self.proved_in(Mode::OldWay)
+    }
+
+    fn kinds(&self, outcome: &LabelOutcome) -> Vec<String> {
+        let shown = |unplaced| self.unplaced_kinds(&outcome.labels, unplaced);
+        kinds(Self::number(outcome), outcome.answer.map_or(vec![], shown))
+    }
+}
+
+impl BothWays for LabelCase {
+    fn proved_in(&self, mode: Mode) -> Proved<LabelOutcome> {
         let mut labels = vec![STALE_CELL; self.label_cells];
         let told = exported::label_rows(
+            wrapped(mode),
             self.rows,
             self.dim,
             self.k,
@@ -133,11 +193,6 @@ impl Compared for LabelCase {
             },
             tidy: told.number == 0 || told.unplaced == 0,
         }
-    }
-
-    fn kinds(&self, outcome: &LabelOutcome) -> Vec<String> {
-        let shown = |unplaced| self.unplaced_kinds(&outcome.labels, unplaced);
-        kinds(Self::number(outcome), outcome.answer.map_or(vec![], shown))
     }
 }
 
@@ -154,13 +209,33 @@ impl Compared for PlaceCase {
         ("all rows unplaced", 100),
         ("unplaced rows beside family 0", 100),
         ("unplaced rows beside a distance of 0", 100),
+        ("strict: accepted", 100),
+        ("strict: refused 1", 100),
+        ("strict: refused 2", 100),
+        ("strict: refused 9", 100),
     ];
 
     fn proved(&self) -> Proved<PlaceOutcome> {
+        self.proved_in(Mode::OldWay)
+    }
+
+    fn kinds(&self, outcome: &PlaceOutcome) -> Vec<String> {
+        let number = Self::number(outcome);
+        let mut kinds = kinds(number, self.unplaced_kinds(outcome));
+        if number == 2 && self.labelling.run().answer.is_ok() {
+            kinds.push("refused 2 for distances alone".into());
+        }
+        kinds
+    }
+}
+
+impl BothWays for PlaceCase {
+    fn proved_in(&self, mode: Mode) -> Proved<PlaceOutcome> {
         let case = &self.labelling;
         let mut labels = vec![STALE_CELL; case.label_cells];
         let mut distances = vec![STALE_FLOAT; self.distance_cells];
         let told = exported::place_cells(
+            wrapped(mode),
             case.rows,
             case.dim,
             case.k,
@@ -173,15 +248,6 @@ impl Compared for PlaceCase {
             outcome: PlaceOutcome::new(answer(told.number, told.unplaced), labels, &distances),
             tidy: told.number == 0 || told.unplaced == 0,
         }
-    }
-
-    fn kinds(&self, outcome: &PlaceOutcome) -> Vec<String> {
-        let number = Self::number(outcome);
-        let mut kinds = kinds(number, self.unplaced_kinds(outcome));
-        if number == 2 && self.labelling.run().answer.is_ok() {
-            kinds.push("refused 2 for distances alone".into());
-        }
-        kinds
     }
 }
 

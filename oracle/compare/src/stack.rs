@@ -6,9 +6,10 @@ use std::process::{Command, Stdio};
 
 use engine::stack::{on_thread, BEGUN, STATED};
 use oracle::cases::{BatchCase, Case};
+use oracle::refusal::Mode::{self, OldWay, Strict};
 
 use crate::files;
-use crate::proved::Compared;
+use crate::proved::{BothWays, Compared, Proved};
 
 mod heavy;
 
@@ -27,13 +28,23 @@ const MARGIN: usize = 2 * BEGUN;
 /// such a function.
 pub fn call(name: &str, stack: usize) -> Option<bool> {
     let (passed, failed) = match name {
-        "families_label" => hold(stack, heavy::label_bytes(), proved),
-        "families_closure" => hold(stack, heavy::closure_bytes(), proved),
-        "families_label_rows" => hold(stack, heavy::label_rows(), proved),
-        "families_place_rows" => hold(stack, heavy::place_rows(), proved),
-        "families_kmeans" => hold(stack, heavy::kmeans(), proved),
-        "families_group" => hold(stack, heavy::grouping(), proved),
-        "families_list" => hold(stack, heavy::files(), listed),
+        "families_label" => hold_in(Strict, stack, heavy::label_bytes()),
+        "families_label_old_way" => hold_in(OldWay, stack, heavy::label_bytes()),
+        "families_closure" => hold(
+            stack,
+            heavy::closure_bytes(),
+            |case| tidy(case.proved()),
+            Case::run,
+        ),
+        "families_label_rows" => hold_in(Strict, stack, heavy::label_rows()),
+        "families_label_rows_old_way" => hold_in(OldWay, stack, heavy::label_rows()),
+        "families_place_rows" => hold_in(Strict, stack, heavy::place_rows()),
+        "families_place_rows_old_way" => hold_in(OldWay, stack, heavy::place_rows()),
+        "families_kmeans" => hold_in(Strict, stack, heavy::kmeans()),
+        "families_kmeans_old_way" => hold_in(OldWay, stack, heavy::kmeans()),
+        "families_group" => hold_in(Strict, stack, heavy::grouping()),
+        "families_group_old_way" => hold_in(OldWay, stack, heavy::grouping()),
+        "families_list" => hold(stack, heavy::files(), listed, Case::run),
         _ => return None,
     };
     let kib = stack >> 10;
@@ -42,8 +53,7 @@ pub fn call(name: &str, stack: usize) -> Option<bool> {
 }
 
 /// What the proved library answered, if it left its work slices as it should.
-fn proved<C: Compared>(case: &C) -> Option<C::Outcome> {
-    let proved = case.proved();
+fn tidy<Outcome>(proved: Proved<Outcome>) -> Option<Outcome> {
     proved.tidy.then_some(proved.outcome)
 }
 
@@ -51,15 +61,30 @@ fn listed(case: &BatchCase) -> Option<Vec<u8>> {
     files::exported(&case.file).ok().map(String::into_bytes)
 }
 
+/// As `hold`, of a function that is one of two ways.
+fn hold_in<C>(mode: Mode, stack: usize, cases: Vec<C>) -> (usize, usize)
+where
+    C: BothWays + Sync,
+    C::Outcome: Send,
+{
+    let call = |case: &C| tidy(case.proved_in(mode));
+    hold(stack, cases, call, |case| case.run_in(mode))
+}
+
 /// How many cases agree with the oracle, and how many do not.
-fn hold<C>(stack: usize, cases: Vec<C>, call: fn(&C) -> Option<C::Outcome>) -> (usize, usize)
+fn hold<C>(
+    stack: usize,
+    cases: Vec<C>,
+    call: impl Fn(&C) -> Option<C::Outcome> + Sync,
+    oracle: impl Fn(&C) -> C::Outcome,
+) -> (usize, usize)
 where
     C: Case + Sync,
     C::Outcome: Send,
 {
-    let ours: Vec<_> = on_thread(stack, || cases.iter().map(call).collect());
+    let ours: Vec<_> = on_thread(stack, || cases.iter().map(&call).collect());
     let both = ours.into_iter().zip(&cases);
-    let agrees = |(ours, case): &(Option<C::Outcome>, &C)| *ours == Some(case.run());
+    let agrees = |(ours, case): &(Option<C::Outcome>, &C)| *ours == Some(oracle(case));
     let passed = both.filter(agrees).count();
     (passed, cases.len() - passed)
 }

@@ -3,7 +3,10 @@
 use std::collections::BTreeMap;
 use std::fmt::Debug;
 
-use crate::proved::Compared;
+use oracle::cases::Case;
+use oracle::refusal::Mode;
+
+use crate::proved::{BothWays, Compared, Proved};
 
 /// How many cases that differ are shown whole.
 const SHOWN: u64 = 5;
@@ -21,11 +24,40 @@ pub struct Tally {
 impl Tally {
     /// Hands a case to both sides.
     pub fn add<C: Compared>(&mut self, name: &str, case: &C) {
-        let (ours, theirs) = (case.proved(), case.run());
+        let theirs = case.run();
         for kind in case.kinds(&theirs) {
             self.meet(kind);
         }
-        if ours.outcome == theirs && ours.tidy {
+        self.judge(name, case, &case.proved(), &theirs);
+    }
+
+    /// Hands a case to both sides in both modes, and holds the proved library's two outcomes against each other too.
+    pub fn add_both<C: BothWays>(&mut self, name: &str, case: &C) {
+        let [old, strict] = Mode::BOTH.map(|mode| case.run_in(mode));
+        let met = [case.kinds(&old), case.strict_kinds(&old, &strict)];
+        for kind in met.concat() {
+            self.meet(kind);
+        }
+        let [old_way, strict_way] = Mode::BOTH.map(|mode| case.proved_in(mode));
+        self.judge(&format!("{name}, the old way,"), case, &old_way, &old);
+        self.judge(&format!("{name}, strict,"), case, &strict_way, &strict);
+        if !C::go_together(&old_way.outcome, &strict_way.outcome) {
+            let text = format!(
+                "{case:?}\nthe old way {:?}\nstrict {:?}",
+                old_way.outcome, strict_way.outcome
+            );
+            self.fail(&format!("{} {name} between its two ways", C::NAME), &text);
+        }
+    }
+
+    fn judge<C: Case>(
+        &mut self,
+        name: &str,
+        case: &C,
+        ours: &Proved<C::Outcome>,
+        theirs: &C::Outcome,
+    ) {
+        if ours.outcome == *theirs && ours.tidy {
             self.passed += 1;
             return;
         }

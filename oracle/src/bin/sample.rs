@@ -1,12 +1,12 @@
-//! Writes the sample that the program `replay` holds the proved library to: cases with the oracle's answers, one record of
-//! `RECORD` bytes each (docs/REPLAY.md). The same bytes come out every time. How many of each kind goes to standard error.
+//! Writes the sample that the program `replay` holds the proved library to: cases with the oracle's answers, the strict ones of calls
+//! that label, one record of `RECORD` bytes each (docs/REPLAY.md). The same bytes come out every time. How many of each kind goes to standard error.
 
 use std::collections::BTreeMap;
 use std::io::Write;
 
 use oracle::calls::words_of;
-use oracle::cases::{BatchCase, Case, ClosureBytesCase, KMeansCase, LabelBytesCase};
-use oracle::refusal::Refusal;
+use oracle::cases::{BatchCase, Case, ClosureBytesCase, KMeansCase, LabelBytesCase, TwoWays};
+use oracle::refusal::{Mode, Refusal};
 
 const RECORD: usize = 384;
 const HEAD_WORDS: usize = 16;
@@ -23,6 +23,9 @@ const VAIN_SPLITS: u32 = 16;
 /// A case that has a record: the words in front from word 6 on, and the four parts.
 trait Stored: Case {
     const OPERATION: u32;
+
+    /// What the record holds the proved library to.
+    fn outcome(&self) -> Self::Outcome;
 
     fn words(&self, outcome: &Self::Outcome) -> Vec<u32>;
 
@@ -41,6 +44,10 @@ fn bytes_of(words: impl IntoIterator<Item = u32>) -> Vec<u8> {
 impl Stored for LabelBytesCase {
     const OPERATION: u32 = 0;
 
+    fn outcome(&self) -> Self::Outcome {
+        self.run_in(Mode::Strict)
+    }
+
     fn words(&self, _outcome: &Self::Outcome) -> Vec<u32> {
         vec![self.dim, self.k]
     }
@@ -53,6 +60,10 @@ impl Stored for LabelBytesCase {
 
 impl Stored for KMeansCase {
     const OPERATION: u32 = 1;
+
+    fn outcome(&self) -> Self::Outcome {
+        self.run_in(Mode::Strict)
+    }
 
     fn words(&self, outcome: &Self::Outcome) -> Vec<u32> {
         let n = &self.numbers;
@@ -89,6 +100,10 @@ impl Stored for KMeansCase {
 impl Stored for BatchCase {
     const OPERATION: u32 = 2;
 
+    fn outcome(&self) -> Self::Outcome {
+        self.run()
+    }
+
     fn words(&self, _outcome: &Self::Outcome) -> Vec<u32> {
         vec![]
     }
@@ -106,6 +121,10 @@ impl Stored for BatchCase {
 
 impl Stored for ClosureBytesCase {
     const OPERATION: u32 = 3;
+
+    fn outcome(&self) -> Self::Outcome {
+        self.run()
+    }
 
     fn words(&self, _outcome: &Self::Outcome) -> Vec<u32> {
         let replicas = u32::from(self.max_replicas);
@@ -140,7 +159,7 @@ fn sample<C: Stored>() -> Vec<u8> {
     let generated = (0..LOOKED_AT).map(|index| C::generate(SEED, index));
     let mut by_number: BTreeMap<u32, Vec<Vec<u8>>> = BTreeMap::new();
     for case in C::built().into_iter().chain(generated) {
-        let outcome = case.run();
+        let outcome = case.outcome();
         if !case.can_be_stored(&outcome) {
             continue;
         }

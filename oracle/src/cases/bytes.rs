@@ -1,8 +1,11 @@
 //! Cases of the exported functions on bytes.
 
-use super::{outside, size, usual_dim, wrong_length, Case, ClosureCase, LabelCase, STALE_BYTE};
+use super::{
+    outside, size, usual_dim, wrong_length, Case, ClosureCase, LabelCase, TwoWays, STALE_BYTE,
+};
 use crate::calls::{closure_bytes, label_bytes, CENTROID_COUNT, DIM, K};
 use crate::random::Random;
+use crate::refusal::Mode;
 
 #[derive(Clone, Debug)]
 pub struct LabelBytesCase {
@@ -102,13 +105,30 @@ impl Case for LabelBytesCase {
     }
 
     fn run(&self) -> BytesOutcome {
-        let mut result = vec![STALE_BYTE; self.result_bytes];
-        let number = label_bytes(self.dim, self.k, &self.row, &self.centroids, &mut result);
-        BytesOutcome { number, result }
+        self.run_in(Mode::OldWay)
     }
 
     fn number(outcome: &BytesOutcome) -> u32 {
         outcome.number
+    }
+}
+
+impl TwoWays for LabelBytesCase {
+    fn run_in(&self, mode: Mode) -> BytesOutcome {
+        let mut result = vec![STALE_BYTE; self.result_bytes];
+        let number = label_bytes(
+            mode,
+            self.dim,
+            self.k,
+            &self.row,
+            &self.centroids,
+            &mut result,
+        );
+        BytesOutcome { number, result }
+    }
+
+    fn unplaced(_: &BytesOutcome) -> Option<u32> {
+        None
     }
 }
 

@@ -1,20 +1,27 @@
 //! Cases of grouping.
 
-use super::unplaced::{row_kind, row_kinds, unplace, NAN_ROW};
+use super::unplaced::{make_large, row_kind, row_kinds, unplace, NAN_ROW};
 use super::values::{Flavour, Source};
 use super::{
     all_float_bits, draw_list, length_of, outside, pass_kinds, size, usual_dim, wrong_draw_list,
-    wrong_length, Case, Spoils, STALE_CELL, STALE_FLOAT,
+    wrong_length, Case, Spoils, TwoWays, STALE_CELL, STALE_FLOAT,
 };
 use crate::calls::{
     grouping, GroupingAccepted, GroupingLent, GroupingNumbers, DIM, K, ROWS, SIZE_LIMIT,
     SPLIT_BUDGET,
 };
 use crate::random::Random;
-use crate::refusal::Refusal;
+use crate::refusal::{Mode, Refusal};
 
 /// Products that a stubborn group's splits may cost together.
 const COST: u32 = 2_000_000;
+
+/// Where 9 meets the other refusals of grouping, and where it does not come.
+const SEVEN_FIRST: &str = "refused 7, with a budget of 0 and a NaN row";
+const SIX_FIRST: &str = "refused 6, with fewer rows than branching and a NaN row";
+const WITHIN_LIMIT: &str = "accepted within the limit, with a NaN row";
+const NINE_LATER: &str = "refused 9 after a split that places all rows";
+const NINE_FIRST: &str = "refused 9 where the old way is refused by 6 or 7 later";
 
 const WEIGHTS: [f32; 16] = [
     0.0,
@@ -170,7 +177,20 @@ impl GroupingCase {
     fn unplace(&mut self, random: &mut Random) {
         let few = random.choose(&[1, 1, 2]);
         unplace(random, &mut self.values, self.numbers.dim, few);
-        if random.once_in(2) && (1..=60).contains(&self.numbers.rows) {
+        if random.once_in(2) {
+            self.split_far(random);
+        }
+    }
+
+    /// Rows that one split places and another may not.
+    fn make_large(&mut self, random: &mut Random) {
+        make_large(random, &mut self.values, self.numbers.dim);
+        self.split_far(random);
+    }
+
+    /// Few rows are balanced, and split up to a small limit.
+    fn split_far(&mut self, random: &mut Random) {
+        if (1..=60).contains(&self.numbers.rows) {
             self.numbers.branching = random.between(2, 3);
             self.numbers.size_limit = random.between(self.numbers.branching - 1, 5);
             self.numbers.weight = random.choose(&[0.1, 0.25, 0.5, 1.0]);
@@ -183,6 +203,21 @@ impl GroupingCase {
     pub fn stubborn() -> Self {
         let values = [1001.5, 1001.25, 1001.75, 1002.5, 1006.25, 1007.75];
         Self::simple(&values, 2, 2, 0.0, 20)
+    }
+
+    /// Where 9 stands: behind 7 and behind 6, nowhere within the limit, at the first split, and at the second one, whose two rows have
+    /// no row of the other sign to bring their mean near zero. The last is refused by 7 in the old way.
+    fn refused_by_nine() -> [Self; 6] {
+        let nan = [0.0, f32::NAN, 1.0];
+        let large = [1.5e19, -1.5e19, 1.5e19, -1.5e19, 1.5e19, -1.5e19];
+        [
+            Self::simple(&nan, 2, 2, 0.0, 0),
+            Self::simple(&nan, 2, 4, 0.0, 0),
+            Self::simple(&nan, 3, 2, 0.0, 9),
+            Self::simple(&nan, 2, 2, 0.0, 9),
+            Self::simple(&large, 1, 2, 0.5, 9),
+            Self::simple(&[f32::NAN; 4], 1, 2, 0.0, 9),
+        ]
     }
 
     /// What a call that did so many splits shows of passes through its list: each picks its centroids.
@@ -209,6 +244,36 @@ impl GroupingCase {
             kinds.push("more unplaced than there are rows");
         }
         kinds
+    }
+
+    /// What a strict call shows of where 9 stands among the other refusals, by the outcomes of both
+    /// ways.
+    pub fn strict_kinds(
+        &self,
+        old: &GroupingOutcome,
+        strict: &GroupingOutcome,
+    ) -> Vec<&'static str> {
+        let n = &self.numbers;
+        let has_nan = || row_kinds(&self.values, n.dim).contains(&NAN_ROW);
+        let mut kinds = vec![];
+        match (Self::number(old), Self::number(strict)) {
+            (_, 7) if n.budget == 0 && has_nan() => kinds.push(SEVEN_FIRST),
+            (_, 6) if n.rows < n.branching && has_nan() => kinds.push(SIX_FIRST),
+            (_, 0) if n.rows <= n.size_limit && has_nan() => kinds.push(WITHIN_LIMIT),
+            (6 | 7, 9) => kinds.push(NINE_FIRST),
+            _ => (),
+        }
+        if Self::number(strict) == 9 && self.first_split_places_all() {
+            kinds.push(NINE_LATER);
+        }
+        kinds
+    }
+
+    /// With a budget of one split, what comes after the first is refused by another number, or is accepted.
+    fn first_split_places_all(&self) -> bool {
+        let mut once = self.clone();
+        once.numbers.budget = 1;
+        Self::number(&once.run_in(Mode::Strict)) != 9
     }
 
     /// Rows of one value, and draws of zero.
@@ -252,6 +317,9 @@ impl Case for GroupingCase {
         if random.once_in(6) {
             case.unplace(random);
         }
+        if random.once_in(24) {
+            case.make_large(random);
+        }
         case
     }
 
@@ -275,6 +343,7 @@ impl Case for GroupingCase {
             Self::simple(&[3.0; 2], 1, 2, 0.0, SPLIT_BUDGET.high),
         ];
         cases.push(Self::stubborn());
+        cases.extend(Self::refused_by_nine());
         // The second split goes on with the third draw.
         let mut later = Self::simple(&[0.0, 10.0, 11.0], 1, 2, 0.0, 2);
         later.draws = vec![0, 0, 1, 0];
@@ -292,10 +361,21 @@ impl Case for GroupingCase {
     }
 
     fn run(&self) -> GroupingOutcome {
+        self.run_in(Mode::OldWay)
+    }
+
+    fn number(outcome: &GroupingOutcome) -> u32 {
+        outcome.answer.err().map_or(0, Refusal::number)
+    }
+}
+
+impl TwoWays for GroupingCase {
+    fn run_in(&self, mode: Mode) -> GroupingOutcome {
         let mut order = vec![STALE_CELL; self.order_cells];
         let mut ends = vec![STALE_CELL; self.end_cells];
         let mut means = vec![STALE_FLOAT; self.mean_cells];
         let answer = grouping(
+            mode,
             &self.numbers,
             &self.values,
             &self.draws,
@@ -309,7 +389,7 @@ impl Case for GroupingCase {
         GroupingOutcome::new(answer, order, ends, &means)
     }
 
-    fn number(outcome: &GroupingOutcome) -> u32 {
-        outcome.answer.err().map_or(0, Refusal::number)
+    fn unplaced(outcome: &GroupingOutcome) -> Option<u32> {
+        outcome.answer.ok().map(|accepted| accepted.unplaced)
     }
 }

@@ -1,10 +1,10 @@
 //! Cases of k-means.
 
-use super::unplaced::{row_kinds, unplace};
+use super::unplaced::{make_large, row_kinds, unplace};
 use super::values::{power_of_two, Source};
 use super::{
     all_float_bits, double_bits, draw_list, length_of, outside, pass_kinds, size, usual_dim,
-    wrong_draw_list, wrong_length, Case, Spoils, STALE_CELL, STALE_FLOAT,
+    wrong_draw_list, wrong_length, Case, Spoils, TwoWays, STALE_CELL, STALE_FLOAT,
 };
 use crate::calls::{
     kmeans, KMeansAccepted, KMeansLent, KMeansNumbers, BLOCK, DIM, ITERATIONS, K, KMEANS_ROWS,
@@ -13,7 +13,7 @@ use crate::calls::{
 use crate::draws::Draws;
 use crate::kmeans::{run_kmeans_flat, KMeansConfig, KMeansResult};
 use crate::random::Random;
-use crate::refusal::Refusal;
+use crate::refusal::{Mode, Refusal};
 
 /// Products a case may cost, so that tens of thousands of cases take seconds.
 const COST: u32 = 1_000_000;
@@ -146,7 +146,8 @@ impl KMeansCase {
         if unplaced > 0 {
             kinds.push("unplaced rows");
         }
-        let last = self.unplaced_in_last().unwrap_or(unplaced);
+        let each = self.unplaced_in_each();
+        let last = each.last().copied().unwrap_or(unplaced);
         if unplaced < last {
             kinds.push("fewer unplaced than in the last restart");
         }
@@ -156,23 +157,40 @@ impl KMeansCase {
         kinds
     }
 
-    /// How many rows the last of several restarts leaves unplaced, kept or not: where every row
-    /// trains, it is a call by itself which goes on with the draws.
-    fn unplaced_in_last(&self) -> Option<u32> {
-        let config = self.numbers.config();
-        let most = self.numbers.k * self.numbers.points_per_centroid;
-        if config.nredo < 2 || most < self.numbers.rows {
-            return None;
+    /// What a strict call shows of restarts that are not kept.
+    pub fn strict_kinds(&self, strict: &KMeansOutcome) -> Vec<&'static str> {
+        let number = Self::number(strict);
+        if number != 0 && number != 9 {
+            return vec![];
         }
-        let draws = &mut Draws::new(&self.draws);
-        self.restarts(config.nredo - 1, draws);
-        Some(self.restarts(1, draws).unplaced)
+        let each = self.unplaced_in_each();
+        match number == 0 {
+            true if each.iter().any(|&lost| lost > 0) => {
+                vec!["accepted, with unplaced rows in a restart not kept"]
+            }
+            false if each.contains(&0) => {
+                vec!["refused 9, with none unplaced in a restart not kept"]
+            }
+            _ => vec![],
+        }
     }
 
-    fn restarts(&self, nredo: usize, draws: &mut Draws) -> KMeansResult {
+    /// How many rows each of several restarts leaves unplaced, kept or not: where every row trains,
+    /// it is a call by itself which goes on with the draws. Nothing where some row does not train.
+    fn unplaced_in_each(&self) -> Vec<u32> {
+        let most = self.numbers.k * self.numbers.points_per_centroid;
+        if self.numbers.restarts < 2 || most < self.numbers.rows {
+            return vec![];
+        }
+        let draws = &mut Draws::new(&self.draws);
+        let restarts = 0..self.numbers.restarts;
+        restarts.map(|_| self.restart(draws).unplaced).collect()
+    }
+
+    fn restart(&self, draws: &mut Draws) -> KMeansResult {
         let n = &self.numbers;
         let config = KMeansConfig {
-            nredo,
+            nredo: 1,
             ..n.config()
         };
         let (rows, dim, k) = (n.rows as usize, n.dim as usize, n.k as usize);
@@ -254,7 +272,7 @@ impl Case for KMeansCase {
         let mut drawn = Self::simple(&[0.1; 20], 12, 25, 5);
         drawn.numbers.restarts = 3;
         drawn.draws = (0..7).map(|i| i * 3).collect();
-        vec![
+        let mut cases = vec![
             drawn,
             Self::simple(&[0.1; 20], 2, 25, 32_768),
             Self::simple(&[0.1; 20], 2, 24, 32_768),
@@ -271,13 +289,26 @@ impl Case for KMeansCase {
             // 1 minus 2^29 is -2^29 in f32, and twice 4097 squared needs f64.
             Self::simple(&[1.0, 1_073_741_824.0], 1, 25, 32_768),
             Self::simple(&[0.0, 8_194.0], 1, 25, 32_768),
-        ]
+        ];
+        cases.extend(RestartsCase::built().into_iter().map(|case| case.0));
+        cases
     }
 
     fn run(&self) -> KMeansOutcome {
+        self.run_in(Mode::OldWay)
+    }
+
+    fn number(outcome: &KMeansOutcome) -> u32 {
+        outcome.answer.err().map_or(0, Refusal::number)
+    }
+}
+
+impl TwoWays for KMeansCase {
+    fn run_in(&self, mode: Mode) -> KMeansOutcome {
         let mut labels = vec![STALE_CELL; self.label_cells];
         let mut centroids = vec![STALE_FLOAT; self.centroid_cells];
         let answer = kmeans(
+            mode,
             &self.numbers,
             &self.values,
             &self.draws,
@@ -290,14 +321,24 @@ impl Case for KMeansCase {
         KMeansOutcome::new(answer, labels, &centroids)
     }
 
-    fn number(outcome: &KMeansOutcome) -> u32 {
-        outcome.answer.err().map_or(0, Refusal::number)
+    fn unplaced(outcome: &KMeansOutcome) -> Option<u32> {
+        outcome.answer.ok().map(|(_, _, unplaced)| unplaced)
     }
 }
 
 /// Few rows of which some are unplaced, and several restarts, so that these differ in how many are.
 #[derive(Clone, Debug)]
 pub struct RestartsCase(pub KMeansCase);
+
+impl RestartsCase {
+    /// Two restarts of one iteration and two centroids, over rows of one value that all train.
+    fn of_two(values: &[f32], draws: &[u32]) -> Self {
+        let mut case = KMeansCase::simple(values, 2, 1, BLOCK.high);
+        case.numbers.restarts = 2;
+        case.draws = draws.to_vec();
+        Self(case)
+    }
+}
 
 impl Case for RestartsCase {
     type Outcome = KMeansOutcome;
@@ -318,18 +359,33 @@ impl Case for RestartsCase {
         let mut case = KMeansCase::of(random, numbers);
         let few = random.between(1, 3);
         unplace(random, &mut case.values, numbers.dim, few);
+        if random.once_in(3) {
+            make_large(random, &mut case.values, numbers.dim);
+        }
         Self(case)
     }
 
     fn built() -> Vec<Self> {
-        vec![]
+        let lost_by_second = Self::of_two(&[-1.5e19, 1.1e19, 1.5e19], &[5, 4]);
+        let lost_by_kept = Self::of_two(&[-1.5e19, 1.1e19], &[0, 0, 1, 0]);
+        vec![lost_by_second, lost_by_kept]
     }
 
     fn run(&self) -> KMeansOutcome {
-        self.0.run()
+        self.run_in(Mode::OldWay)
     }
 
     fn number(outcome: &KMeansOutcome) -> u32 {
         KMeansCase::number(outcome)
+    }
+}
+
+impl TwoWays for RestartsCase {
+    fn run_in(&self, mode: Mode) -> KMeansOutcome {
+        self.0.run_in(mode)
+    }
+
+    fn unplaced(outcome: &KMeansOutcome) -> Option<u32> {
+        KMeansCase::unplaced(outcome)
     }
 }

@@ -2,10 +2,10 @@
 
 use super::unplaced::{row_kinds, unplace};
 use super::values::{copy_some, Source};
-use super::{length_of, outside, size, usual_dim, wrong_length, Case, Spoils, STALE_CELL};
+use super::{length_of, outside, size, usual_dim, wrong_length, Case, Spoils, TwoWays, STALE_CELL};
 use crate::calls::{labelling, DIM, K, ROWS};
 use crate::random::Random;
-use crate::refusal::Refusal;
+use crate::refusal::{Mode, Refusal};
 
 #[derive(Clone, Debug)]
 pub struct LabelCase {
@@ -141,8 +141,19 @@ impl Case for LabelCase {
     }
 
     fn run(&self) -> LabelOutcome {
+        self.run_in(Mode::OldWay)
+    }
+
+    fn number(outcome: &LabelOutcome) -> u32 {
+        outcome.answer.err().map_or(0, Refusal::number)
+    }
+}
+
+impl TwoWays for LabelCase {
+    fn run_in(&self, mode: Mode) -> LabelOutcome {
         let mut labels = vec![STALE_CELL; self.label_cells];
         let answer = labelling(
+            mode,
             self.rows,
             self.dim,
             self.k,
@@ -153,7 +164,7 @@ impl Case for LabelCase {
         LabelOutcome { answer, labels }
     }
 
-    fn number(outcome: &LabelOutcome) -> u32 {
-        outcome.answer.err().map_or(0, Refusal::number)
+    fn unplaced(outcome: &LabelOutcome) -> Option<u32> {
+        outcome.answer.ok()
     }
 }

@@ -1,9 +1,9 @@
 //! Cases of labelling with distances.
 
-use super::{wrong_length, Case, LabelCase, STALE_CELL, STALE_FLOAT};
+use super::{wrong_length, Case, LabelCase, TwoWays, STALE_CELL, STALE_FLOAT};
 use crate::calls::placing;
 use crate::random::Random;
-use crate::refusal::Refusal;
+use crate::refusal::{Mode, Refusal};
 
 #[derive(Clone, Debug)]
 pub struct PlaceCase {
@@ -75,10 +75,21 @@ impl Case for PlaceCase {
     }
 
     fn run(&self) -> PlaceOutcome {
+        self.run_in(Mode::OldWay)
+    }
+
+    fn number(outcome: &PlaceOutcome) -> u32 {
+        outcome.answer.err().map_or(0, Refusal::number)
+    }
+}
+
+impl TwoWays for PlaceCase {
+    fn run_in(&self, mode: Mode) -> PlaceOutcome {
         let case = &self.labelling;
         let mut labels = vec![STALE_CELL; case.label_cells];
         let mut distances = vec![STALE_FLOAT; self.distance_cells];
         let answer = placing(
+            mode,
             case.rows,
             case.dim,
             case.k,
@@ -90,7 +101,7 @@ impl Case for PlaceCase {
         PlaceOutcome::new(answer, labels, &distances)
     }
 
-    fn number(outcome: &PlaceOutcome) -> u32 {
-        outcome.answer.err().map_or(0, Refusal::number)
+    fn unplaced(outcome: &PlaceOutcome) -> Option<u32> {
+        outcome.answer.ok()
     }
 }

@@ -27,6 +27,19 @@ pub fn unplace(random: &mut Random, values: &mut [f32], dim: u32, count: u32) {
     }
 }
 
+/// Readings whose square is finite, and twice the square of which is not, with some below.
+const LARGE: [f32; 6] = [1.5e19, -1.5e19, 1.5e19, -1.5e19, 1.1e19, 0.0];
+
+/// Gives every vector one such reading and else zeros. What places such a row is a centroid near zero, as the mean of rows of either
+/// sign is: so one restart, or one split, may place a row that another does not.
+pub fn make_large(random: &mut Random, values: &mut [f32], dim: u32) {
+    for vector in values.chunks_mut(dim.clamp(1, 64) as usize) {
+        let at = random.below(vector.len() as u32) as usize;
+        vector.fill(0.0);
+        vector[at] = random.choose(&LARGE);
+    }
+}
+
 /// Why a row is unplaced whatever the centroids are, where it is.
 pub fn row_kind(row: &[f32]) -> Option<&'static str> {
     let norm = row.iter().fold(0.0, |norm, value| norm + value * value);

@@ -37,6 +37,7 @@ fn report(rows: &[&[f32]], groups: &[&[usize]]) -> Report {
             count: 5555,
         },
         tray: 2,
+        allow_unplaced: false,
         grouping: Grouping {
             families: families.collect(),
             splits: 6,

@@ -1,11 +1,13 @@
-//! Speed of the proved library against the oracle's scalar loops, side by side in one run on one thread: ratios of medians.
+//! Speed of the proved library against the oracle's scalar loops, both in the old way, side by side in one run on one thread: ratios of
+//! medians.
 //!
 //! `benchmark [ROUNDS] [WORD..]`: all, or what has these words in its name.
 
 use compare::timing::{as_long, rows_around, side_by_side, values, wanted};
-use engine::exported::{self, KMeansNumbers, KMeansWork};
+use engine::exported::{self, KMeansNumbers, KMeansWork, Mode};
 use oracle::calls;
 use oracle::random::Random;
+use oracle::refusal;
 
 const ROWS: usize = 4_096;
 const TRAY: usize = 40;
@@ -26,11 +28,18 @@ fn labelling(rounds: usize, count: usize, dim: usize, k: usize) {
         rounds,
         || {
             exported::label_rows(
-                numbers.0, numbers.1, numbers.2, &rows, &centroids, &mut mine,
+                Mode::OldWay,
+                numbers.0,
+                numbers.1,
+                numbers.2,
+                &rows,
+                &centroids,
+                &mut mine,
             );
         },
         || {
             let _ = calls::labelling(
+                refusal::Mode::OldWay,
                 numbers.0,
                 numbers.1,
                 numbers.2,
@@ -102,14 +111,23 @@ fn kmeans(rounds: usize, dim: usize, k: usize, kind: Rows) {
     let (proved, oracle) = side_by_side(
         rounds,
         || {
-            exported::kmeans(numbers, &draws, &rows, &mut mine.0, &mut mine.1, &mut work);
+            let lent = (&mut mine.0[..], &mut mine.1[..]);
+            exported::kmeans(
+                Mode::OldWay,
+                numbers,
+                &draws,
+                &rows,
+                lent.0,
+                lent.1,
+                &mut work,
+            );
         },
         || {
             let lent = calls::KMeansLent {
                 labels: &mut others.0,
                 centroids: &mut others.1,
             };
-            let _ = calls::kmeans(&theirs, &rows, &draws, true, lent);
+            let _ = calls::kmeans(refusal::Mode::OldWay, &theirs, &rows, &draws, true, lent);
         },
     );
     assert_eq!(mine, others);
@@ -119,7 +137,16 @@ fn kmeans(rounds: usize, dim: usize, k: usize, kind: Rows) {
             iterations,
             ..numbers
         };
-        exported::kmeans(fewer, &draws, &rows, &mut trial.0, &mut trial.1, &mut work);
+        let lent = (&mut trial.0[..], &mut trial.1[..]);
+        exported::kmeans(
+            Mode::OldWay,
+            fewer,
+            &draws,
+            &rows,
+            lent.0,
+            lent.1,
+            &mut work,
+        );
         trial == mine
     });
     println!(

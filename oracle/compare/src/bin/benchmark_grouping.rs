@@ -1,11 +1,12 @@
-//! Speed of grouping against the oracle, side by side in one run on one thread: ratios of medians, and of their sums.
+//! Speed of grouping against the oracle, both in the old way, side by side in one run on one thread: ratios of medians, and of their sums.
 //!
 //! `benchmark_grouping [ROUNDS] [WORD..]`: all, or what has these words in its name.
 
 use compare::timing::{as_long, rows_around, values, wanted};
-use engine::exported::{self, GroupNumbers, GroupTold, GroupWork};
+use engine::exported::{self, GroupNumbers, GroupTold, GroupWork, Mode};
 use oracle::calls::{self, GroupingAccepted, GroupingLent, GroupingNumbers};
 use oracle::random::Random;
+use oracle::refusal;
 
 /// Whole batches, and one split of a group that is just above the limit.
 const SHAPES: [(usize, usize); 4] = [(4_096, 3), (1_000, 16), (41, 3), (41, 16)];
@@ -82,6 +83,7 @@ impl Batch {
             budget: self.numbers.budget,
         };
         exported::group(
+            Mode::OldWay,
             numbers,
             &self.draws,
             &self.values,
@@ -99,7 +101,8 @@ impl Batch {
             means: &mut results.means,
         };
         let (values, draws) = (&self.values, &self.draws);
-        calls::grouping(&self.numbers, values, draws, true, lent)
+        let mode = refusal::Mode::OldWay;
+        calls::grouping(mode, &self.numbers, values, draws, true, lent)
             .expect("the batch is one that is accepted")
     }
 }

@@ -1,9 +1,11 @@
 //! Speed of two builds of the exported library, side by side in one run on one thread: the old one's median time over the new one's,
-//! and the same of every round.
+//! and the same of every round. Both are called in the old way; where the new build has a strict one, that is then timed against its own
+//! old way.
 //!
 //! `benchmark_two OLD.so NEW.so [ROUNDS] [WORD..]`: all, or what has these words in its name. A build becomes such a file by
 //! `cc -shared -o NEW.so -Wl,--whole-archive target/staticlib/libexports.a -Wl,--no-whole-archive`. It may be one of before request
-//! (ii) of document 02, whose functions have no place for how many rows are unplaced.
+//! (iii) of document 02, whose plain names are the old way, or of before (ii), whose functions have no place for how many rows are
+//! unplaced.
 
 use std::env::args;
 use std::ffi::{c_char, c_int, c_void, CString};
@@ -42,10 +44,17 @@ macro_rules! call {
     }};
 }
 
+/// A function in its two ways; a build of before request (iii) has no strict one.
+#[derive(Clone, Copy)]
+struct Ways {
+    old: Function,
+    strict: Option<Function>,
+}
+
 struct Build {
-    label_rows: Function,
-    kmeans: Function,
-    group: Function,
+    label_rows: Ways,
+    kmeans: Ways,
+    group: Ways,
 }
 
 fn build(path: &str) -> Build {
@@ -55,15 +64,26 @@ fn build(path: &str) -> Build {
     let find = |name: &str| unsafe { dlsym(library, text(name).as_ptr()) };
     // The function that came with the counts.
     let counts = !find("families_place_rows").is_null();
-    let function = |name: &str| {
-        let at = find(name);
-        assert!(!at.is_null(), "{path} has no {name}");
-        Function { at, counts }
+    let ways = |name: &str| {
+        let plain = find(name);
+        assert!(!plain.is_null(), "{path} has no {name}");
+        let plain = Function { at: plain, counts };
+        let named = find(&format!("{name}_old_way"));
+        match named.is_null() {
+            true => Ways {
+                old: plain,
+                strict: None,
+            },
+            false => Ways {
+                old: Function { at: named, counts },
+                strict: Some(plain),
+            },
+        }
     };
     Build {
-        label_rows: function("families_label_rows"),
-        kmeans: function("families_kmeans"),
-        group: function("families_group"),
+        label_rows: ways("families_label_rows"),
+        kmeans: ways("families_kmeans"),
+        group: ways("families_group"),
     }
 }
 
@@ -201,23 +221,52 @@ fn bits(values: &[f32]) -> Vec<u32> {
     values.iter().map(|value| value.to_bits()).collect()
 }
 
-/// Two lines: both medians, their ratio, and whether both gave the same; and the ratio of every round.
-fn measure<T: PartialEq>(rounds: usize, name: &str, old: impl Fn() -> T, new: impl Fn() -> T) {
+/// The old way of both builds, and then both ways of the new one.
+fn measure<T: PartialEq>(
+    rounds: usize,
+    name: &str,
+    [old, new]: [Ways; 2],
+    call: impl Fn(Function) -> T,
+) {
     if !args().skip(4).all(|word| name.contains(&word)) {
         return;
     }
-    let same = match old() == new() {
+    let call = &call;
+    let calling = |function| move || call(function);
+    in_turn(
+        rounds,
+        name,
+        ["old", "new"],
+        calling(old.old),
+        calling(new.old),
+    );
+    if let Some(strict) = new.strict {
+        let names = ["new in the old way", "new strict"];
+        in_turn(rounds, name, names, calling(new.old), calling(strict));
+    }
+}
+
+/// Two lines: both medians, their ratio, and whether both gave the same; and the ratio of every round.
+fn in_turn<T: PartialEq>(
+    rounds: usize,
+    name: &str,
+    [first, second]: [&str; 2],
+    one: impl Fn() -> T,
+    other: impl Fn() -> T,
+) {
+    let same = match one() == other() {
         true => "the same answers",
         false => "other answers",
     };
-    let times = rounds_as_long(rounds, || drop(new()), || drop(old()));
-    let (news, olds) = medians(&times);
-    let (olds, news) = (olds * 1e6, news * 1e6);
+    let times = rounds_as_long(rounds, || drop(other()), || drop(one()));
+    let (others, ones) = medians(&times);
+    let (ones, others) = (ones * 1e6, others * 1e6);
     println!(
-        "{name}: old {olds:.1} us, new {news:.1} us, old/new {:.3}, {same}",
-        olds / news
+        "{name}: {first} {ones:.1} us, {second} {others:.1} us, {first}/{second} {:.3}, {same}",
+        ones / others
     );
-    let each = times.iter().map(|(new, old)| format!("{:.3}", old / new));
+    let each = times.iter();
+    let each = each.map(|(other, one)| format!("{:.3}", one / other));
     println!("    rounds: {}", each.collect::<Vec<_>>().join(" "));
 }
 
@@ -228,12 +277,10 @@ fn measure_labelling(rounds: usize, old: &Build, new: &Build) {
             let batch = Batch::new(rows, dim, "shapeless");
             let centroids = values(&mut Random::new(3, 97, (dim * 100 + k) as u64), k * dim);
             let name = format!("labelling {rows}x{dim}, k {k}");
-            measure(
-                rounds,
-                &name,
-                || batch.label_rows(old.label_rows, &centroids),
-                || batch.label_rows(new.label_rows, &centroids),
-            );
+            let ways = [old.label_rows, new.label_rows];
+            measure(rounds, &name, ways, |function| {
+                batch.label_rows(function, &centroids)
+            });
         }
     }
 }
@@ -258,12 +305,8 @@ fn main() {
         ] {
             let batch = Batch::new(rows, dim, kind);
             let name = format!("k-means {rows}x{dim}, k {k}, {kind}");
-            measure(
-                rounds,
-                &name,
-                || batch.kmeans(old.kmeans, k),
-                || batch.kmeans(new.kmeans, k),
-            );
+            let ways = [old.kmeans, new.kmeans];
+            measure(rounds, &name, ways, |function| batch.kmeans(function, k));
         }
         for (rows, dim, branching) in [
             (4_096, 3, 2),
@@ -274,12 +317,10 @@ fn main() {
         ] {
             let batch = Batch::new(rows, dim, kind);
             let name = format!("grouping {rows}x{dim}, branching {branching}, {kind}");
-            measure(
-                rounds,
-                &name,
-                || batch.group(old.group, branching),
-                || batch.group(new.group, branching),
-            );
+            let ways = [old.group, new.group];
+            measure(rounds, &name, ways, |function| {
+                batch.group(function, branching)
+            });
         }
     }
 }

@@ -202,35 +202,55 @@ fn grouping(random: &mut Random) -> GroupingCase {
     }
 }
 
-const LABEL_NEEDS: [Need; 3] = [("accepted", 50), ("refused 1", 50), ("refused 2", 50)];
+const LABEL_NEEDS: [Need; 5] = [
+    ("accepted", 50),
+    ("refused 1", 50),
+    ("refused 2", 50),
+    ("strict: accepted", 50),
+    ("strict: refused 9", 50),
+];
 const CLOSURE_NEEDS: [Need; 4] = [
     ("accepted", 50),
     ("refused 1", 50),
     ("refused 2", 50),
     ("refused 5", 10),
 ];
-const KMEANS_NEEDS: [Need; 5] = [
+const KMEANS_NEEDS: [Need; 7] = [
     ("accepted", 50),
     ("refused 1", 50),
     ("refused 2", 50),
     ("refused 3", 10),
     ("refused 4", 10),
+    ("strict: accepted", 50),
+    ("strict: refused 9", 50),
 ];
-const GROUPING_NEEDS: [Need; 6] = [
+const GROUPING_NEEDS: [Need; 8] = [
     ("accepted", 50),
     ("refused 1", 50),
     ("refused 2", 50),
     ("refused 4", 10),
     ("refused 6", 10),
     ("refused 7", 10),
+    ("strict: accepted", 50),
+    ("strict: refused 9", 10),
 ];
 
-fn run<C: Compared>(seed: u64, count: u64, needs: &[Need], make: fn(&mut Random) -> C) -> Tally {
+fn run<C: Compared>(
+    seed: u64,
+    count: u64,
+    needs: &[Need],
+    make: fn(&mut Random) -> C,
+    add: fn(&mut Tally, &str, &C),
+) -> Tally {
     let name = format!("hostile {}", C::NAME);
     let mut tally = Tally::default();
     for index in 0..count {
         let case = make(&mut Random::new(seed, 94, index));
-        tally.add(&format!("hostile, seed {seed} index {index}"), &case);
+        add(
+            &mut tally,
+            &format!("hostile, seed {seed} index {index}"),
+            &case,
+        );
     }
     if count >= ENOUGH {
         tally.need(&name, needs);
@@ -239,17 +259,18 @@ fn run<C: Compared>(seed: u64, count: u64, needs: &[Need], make: fn(&mut Random)
     tally
 }
 
-/// How many functions there are.
-pub const FUNCTIONS: usize = 6;
+/// How many kinds of case there are, and how many functions: all but closure have two ways.
+pub const KINDS: usize = 6;
+pub const FUNCTIONS: usize = 2 * KINDS - 1;
 
 /// `count` calls of each function.
-pub fn compare(seed: u64, count: u64) -> [Tally; FUNCTIONS] {
+pub fn compare(seed: u64, count: u64) -> [Tally; KINDS] {
     [
-        run(seed, count, &LABEL_NEEDS, label_bytes),
-        run(seed, count, &CLOSURE_NEEDS, closure_bytes),
-        run(seed, count, &LABEL_NEEDS, label_rows),
-        run(seed, count, &LABEL_NEEDS, place_rows),
-        run(seed, count, &KMEANS_NEEDS, kmeans),
-        run(seed, count, &GROUPING_NEEDS, grouping),
+        run(seed, count, &LABEL_NEEDS, label_bytes, Tally::add_both),
+        run(seed, count, &CLOSURE_NEEDS, closure_bytes, Tally::add),
+        run(seed, count, &LABEL_NEEDS, label_rows, Tally::add_both),
+        run(seed, count, &LABEL_NEEDS, place_rows, Tally::add_both),
+        run(seed, count, &KMEANS_NEEDS, kmeans, Tally::add_both),
+        run(seed, count, &GROUPING_NEEDS, grouping, Tally::add_both),
     ]
 }

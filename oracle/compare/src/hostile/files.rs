@@ -15,13 +15,14 @@ const COST: u64 = 200_000;
 const CELLS: u32 = 9;
 const BUDGET_CELL: usize = 8;
 
-const NEEDS: [Need; 8] = [
+const NEEDS: [Need; 9] = [
     ("accepted", 100),
     ("refused 1", 20),
     ("refused 4", 20),
     ("refused 6", 20),
     ("refused 7", 20),
     ("refused 8", 200),
+    ("refused 9", 20),
     ("the longest file", 1),
     ("a file too long", 1),
 ];

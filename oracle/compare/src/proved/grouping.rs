@@ -4,8 +4,9 @@ use engine::exported::{self, GroupNumbers, GroupWork};
 use oracle::calls::GroupingAccepted;
 use oracle::cases::{Case, GroupingCase, GroupingOutcome, STALE_CELL, STALE_FLOAT};
 use oracle::random::Random;
+use oracle::refusal::Mode;
 
-use super::{answer, spoil, wrong_kind, Compared, Proved};
+use super::{answer, spoil, strict_kinds, wrapped, wrong_kind, BothWays, Compared, Proved};
 use crate::tally::{number_kind, Need};
 use crate::weights;
 
@@ -104,15 +105,53 @@ impl Compared for GroupingCase {
         ("unplaced rows", 100),
         ("one NaN row, several splits and more than one unplaced", 10),
         ("more unplaced than there are rows", 10),
+        ("strict: accepted", 500),
+        ("strict: refused 1", 50),
+        ("strict: refused 2", 50),
+        ("strict: refused 4", 50),
+        ("strict: refused 6", 50),
+        ("strict: refused 7", 50),
+        ("strict: refused 9", 100),
+        ("strict: refused 7, with a budget of 0 and a NaN row", 5),
+        (
+            "strict: refused 6, with fewer rows than branching and a NaN row",
+            5,
+        ),
+        ("strict: accepted within the limit, with a NaN row", 10),
+        ("strict: refused 9 after a split that places all rows", 10),
+        (
+            "strict: refused 9 where the old way is refused by 6 or 7 later",
+            50,
+        ),
     ];
 
     fn proved(&self) -> Proved<GroupingOutcome> {
+        self.proved_in(Mode::OldWay)
+    }
+
+    fn kinds(&self, outcome: &GroupingOutcome) -> Vec<String> {
+        let number = Self::number(outcome);
+        let mut kinds = vec![number_kind(number)];
+        if let Ok(accepted) = outcome.answer {
+            kinds.extend(accepted_kinds(self, outcome, &accepted));
+        }
+        if number == 2 && !self.work_fits {
+            let (which, shorter) = wrong_slice(self);
+            kinds.push(wrong_kind(SLICES[which], shorter));
+        }
+        kinds
+    }
+}
+
+impl BothWays for GroupingCase {
+    fn proved_in(&self, mode: Mode) -> Proved<GroupingOutcome> {
         let mut work = work_of(self);
         let mut order = vec![STALE_CELL; self.order_cells];
         let mut ends = vec![STALE_CELL; self.end_cells];
         let mut means = vec![STALE_FLOAT; self.mean_cells];
         let numbers = &self.numbers;
         let told = exported::group(
+            wrapped(mode),
             GroupNumbers {
                 rows: numbers.rows,
                 dim: numbers.dim,
@@ -140,16 +179,7 @@ impl Compared for GroupingCase {
         }
     }
 
-    fn kinds(&self, outcome: &GroupingOutcome) -> Vec<String> {
-        let number = Self::number(outcome);
-        let mut kinds = vec![number_kind(number)];
-        if let Ok(accepted) = outcome.answer {
-            kinds.extend(accepted_kinds(self, outcome, &accepted));
-        }
-        if number == 2 && !self.work_fits {
-            let (which, shorter) = wrong_slice(self);
-            kinds.push(wrong_kind(SLICES[which], shorter));
-        }
-        kinds
+    fn strict_kinds(&self, old: &GroupingOutcome, strict: &GroupingOutcome) -> Vec<String> {
+        strict_kinds(Self::number(strict), self.strict_kinds(old, strict))
     }
 }

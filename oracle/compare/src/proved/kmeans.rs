@@ -4,8 +4,9 @@ use engine::exported::{self, KMeansNumbers, KMeansWork};
 use oracle::calls::KMeansAccepted;
 use oracle::cases::{Case, KMeansCase, KMeansOutcome, RestartsCase, STALE_CELL, STALE_FLOAT};
 use oracle::random::Random;
+use oracle::refusal::Mode;
 
-use super::{answer, kinds, spoil, wrong_kind, Compared, Proved};
+use super::{answer, kinds, spoil, strict_kinds, wrapped, wrong_kind, BothWays, Compared, Proved};
 use crate::tally::Need;
 
 /// The work slice full of stale values; it is too long or too short where the case says that it doesn't fit.
@@ -40,14 +41,37 @@ impl Compared for KMeansCase {
         ("an infinite row", 50),
         ("a row whose norm overflows", 50),
         ("unplaced rows", 100),
+        ("strict: accepted", 100),
+        ("strict: refused 1", 100),
+        ("strict: refused 2", 100),
+        ("strict: refused 3", 100),
+        ("strict: refused 4", 100),
+        ("strict: refused 9", 100),
     ];
 
     fn proved(&self) -> Proved<KMeansOutcome> {
+        self.proved_in(Mode::OldWay)
+    }
+
+    fn kinds(&self, outcome: &KMeansOutcome) -> Vec<String> {
+        let number = Self::number(outcome);
+        let shown = |(_, _, unplaced)| [self.pass_kinds(), self.unplaced_kinds(unplaced)].concat();
+        let mut kinds = kinds(number, outcome.answer.map_or(vec![], shown));
+        if number == 2 && !self.work_fits {
+            kinds.push(wrong_kind("training", is_shorter(self)));
+        }
+        kinds
+    }
+}
+
+impl BothWays for KMeansCase {
+    fn proved_in(&self, mode: Mode) -> Proved<KMeansOutcome> {
         let mut work = work_of(self);
         let mut labels = vec![STALE_CELL; self.label_cells];
         let mut centroids = vec![STALE_FLOAT; self.centroid_cells];
         let numbers = &self.numbers;
         let told = exported::kmeans(
+            wrapped(mode),
             KMeansNumbers {
                 rows: numbers.rows,
                 dim: numbers.dim,
@@ -75,14 +99,8 @@ impl Compared for KMeansCase {
         }
     }
 
-    fn kinds(&self, outcome: &KMeansOutcome) -> Vec<String> {
-        let number = Self::number(outcome);
-        let shown = |(_, _, unplaced)| [self.pass_kinds(), self.unplaced_kinds(unplaced)].concat();
-        let mut kinds = kinds(number, outcome.answer.map_or(vec![], shown));
-        if number == 2 && !self.work_fits {
-            kinds.push(wrong_kind("training", is_shorter(self)));
-        }
-        kinds
+    fn strict_kinds(&self, _old: &KMeansOutcome, strict: &KMeansOutcome) -> Vec<String> {
+        strict_kinds(Self::number(strict), self.strict_kinds(strict))
     }
 }
 
@@ -92,6 +110,16 @@ impl Compared for RestartsCase {
         ("unplaced rows", 1_000),
         ("fewer unplaced than in the last restart", 20),
         ("more unplaced than in the last restart", 20),
+        ("strict: accepted", 100),
+        ("strict: refused 9", 1_000),
+        (
+            "strict: accepted, with unplaced rows in a restart not kept",
+            10,
+        ),
+        (
+            "strict: refused 9, with none unplaced in a restart not kept",
+            10,
+        ),
     ];
 
     fn proved(&self) -> Proved<KMeansOutcome> {
@@ -100,5 +128,15 @@ impl Compared for RestartsCase {
 
     fn kinds(&self, outcome: &KMeansOutcome) -> Vec<String> {
         self.0.kinds(outcome)
+    }
+}
+
+impl BothWays for RestartsCase {
+    fn proved_in(&self, mode: Mode) -> Proved<KMeansOutcome> {
+        self.0.proved_in(mode)
+    }
+
+    fn strict_kinds(&self, old: &KMeansOutcome, strict: &KMeansOutcome) -> Vec<String> {
+        BothWays::strict_kinds(&self.0, old, strict)
     }
 }

@@ -23,7 +23,7 @@ abbrev rows-of : tie.After-run-kmeans-flat → tie.After-gather-rows
 rows-of r = r .before .before .before .before .before .before .before .before
 
 abbrev run-of : tie.After-gather → tie.After-run-kmeans-flat
-run-of g = g .before .before .before .before .before .before .before .before .before .before .before .before .before
+run-of g = g .before .before .before .before .before .before .before .before .before .before .before .before .before .before .before .before
 
 abbrev copy-of : tie.After-gather → tie.After-copy-cells
 copy-of g = g .before .before .before .before .before .before
@@ -84,6 +84,9 @@ copied-long c = lent-front _ 4096 (c .cell-room2 .result) (c .cell-room2 .ensure
 rows-hold : (g : tie.After-gather-rows) → Front (cells (start-of g)) (g .gather-rows .last .1 .1 .1 .1 .0 ++ drop (cells (start-of g)) (start-of g .args .gathered .now)) (g .gather-rows .last .1 .1 .1 .1 .0)
 rows-hold g = front refl (g .gather-rows .kept .1 .1 .1 .1 .0 ∙ gathered-long (start-of g)) _
 
+gathered-same : (g : tie.After-gather-rows) → length (g .gather-rows .last .1 .1 .1 .1 .0 ++ drop (cells (start-of g)) (start-of g .args .gathered .now)) ≡ length (start-of g .args .gathered .now)
+gathered-same g = length-front (start-of g .args .gathered .now) (g .gather-rows .last .1 .1 .1 .1 .0) (cells (start-of g)) (g .gather-rows .kept .1 .1 .1 .1 .0)
+
 module _ (r : tie.After-run-kmeans-flat) where
   abbrev z : tie.Start
   z = start-of (rows-of r)
@@ -101,6 +104,9 @@ module _ (r : tie.After-run-kmeans-flat) where
   centroids-hold : Front (width z) (centroids-after ++ drop (width z) (r .before .before .before .before .before .before .before .before .before .before .before .before .before .row-room .result)) centroids-after
   centroids-hold = front refl (r .run-kmeans-flat .kept .1 .1 .1 .1 .1 .1 .1 .0 ∙ centroids-long (r .before .before .before .before .before .before .before .before .before .before .before .before .before)) _
 
+  training-same : length (r .run-kmeans-flat .last .1 .1 .1 .1 .1 .1 .1 .1 .0 ++ drop (cells z) (z .args .training .now)) ≡ length (z .args .training .now)
+  training-same = length-front (z .args .training .now) (r .run-kmeans-flat .last .1 .1 .1 .1 .1 .1 .1 .1 .0) (cells z) (r .run-kmeans-flat .kept .1 .1 .1 .1 .1 .1 .1 .1 .0)
+
   -- it ran over the group's rows
   ran : Ran (z .args .draws .now) forGrouping (parts z) (z .args .dim) (rowsAt (table z) (z .args .part .now)) (z .args .cursor) (r .run-kmeans-flat .result) labels-after (rowsFrom (z .args .dim) (parts z) centroids-after)
   ran = rw (r .before .before .before .before .before .for-grouping .ensures, labels-long (r .before .before .before .before .before .before .before .before .before .before .before .before), rows-hold (rows-of r) .is, rows-of r .gather-rows .ensures) at (r .run-kmeans-flat .ensures)
@@ -113,7 +119,7 @@ module _ (r : tie.After-run-kmeans-flat) where
   found = labelled (z .args .dim) _ (table z) (z .args .part .now) (z .pre .1 .1 .1 .1) bits (z .pre .0 .limits .1 .0 .0) (z .pre .1 .0) (z .pre .1 .1 .1 .0) ran
 
 -- the copy of the group
-copied-hold : (c : tie.After-copy-cells) → let z = start-of (rows-of (c .before .before .before .before .before .before .before)) in Front (size z) (c .copy-cells .last .0 ++ drop (size z) (c .before .before .before .before .before .before .before .before .before .before .before .before .before .before .before .before .before .before .cell-room2 .result)) (z .args .part .now)
+copied-hold : (c : tie.After-copy-cells) → let z = start-of (rows-of (c .before .before .before .before .before .before .before .before .before .before)) in Front (size z) (c .copy-cells .last .0 ++ drop (size z) (c .before .before .before .before .before .before .before .before .before .before .before .before .before .before .before .before .before .before .before .before .before .cell-room2 .result)) (z .args .part .now)
 copied-hold c = front (c .copy-cells .ensures) refl _
 
 -- the rows gathered by the labels
@@ -183,14 +189,33 @@ run-kmeans-flat-requires c κs =
     let s = split-space (c .before .before .before .before .for-grouping .result) (z .pre .0 .limits) (size-few z) (z .pre .1 .0) (labels-long (c .before .before .before .before .before .before .before .before .before .before .before)) (rows-hold (c .before .before .before .before .before .before .before) .long) (centroids-long (c .before .before .before .before .before .before .before .before .before .before .before .before)) (training-long z) (c .before .before .before .before .for-grouping .ensures) in
     (s .0, (s .1, z .pre .1 .1 .1 .1))
 
+unplaced-refusal-requires : tie.Need-unplaced-refusal-requires
+unplaced-refusal-requires c κs = search needs
+
+same-length : tie.Need-same-length
+same-length c = refl
+
+same-length-2 : tie.Need-same-length-2
+same-length-2 c = gathered-same (c .before .before .before .before .before .before .before .before .before .before .before .before .before .before .before)
+
+same-length-3 : tie.Need-same-length-3
+same-length-3 c = training-same (c .before .before .before .before .before .before .before)
+
+returns : tie.Need-returns
+returns c =
+    let r = c .before .before .before .before .before .before .before in
+    let s = z r in
+    split-done (s .args .config .mode) (s .args .dim) (table s) (s .args .config .weight) _ (s .pre .1 .1 .1 .1) (bits r) (size-few s) (ran r) (c .before .unplaced-refusal .ensures)
+    (λ e. absurd (c .if1 .taken e))
+
 array-borrow-prefix-copied : tie.Need-array-borrow-prefix-copied
-array-borrow-prefix-copied c = lent-fits _ 4096 (c .before .before .before .before .before .before .before .before .before .before .before .before .before .before .before .cell-room2 .result) (c .before .before .before .before .before .before .before .before .before .before .before .before .before .before .before .cell-room2 .ensures) (size-few (c .before .before .before .before .before .before .before .before .before .before .before .before .before .before .before .before .before .before .before .before .before .before .before .before))
+array-borrow-prefix-copied c = lent-fits _ 4096 (c .before .before .before .before .before .before .before .before .before .before .before .before .before .before .before .before .before .before .cell-room2 .result) (c .before .before .before .before .before .before .before .before .before .before .before .before .before .before .before .before .before .before .cell-room2 .ensures) (size-few (c .before .before .before .before .before .before .before .before .before .before .before .before .before .before .before .before .before .before .before .before .before .before .before .before .before .before .before))
 
 slice-aggregate-copy-cells : tie.Need-slice-aggregate-copy-cells
-slice-aggregate-copy-cells c = sym (copied-long (c .before .before .before .before .before .before .before .before .before .before .before .before .before .before .before .before))
+slice-aggregate-copy-cells c = sym (copied-long (c .before .before .before .before .before .before .before .before .before .before .before .before .before .before .before .before .before .before .before))
 
 copy-cells-requires : tie.Need-copy-cells-requires
-copy-cells-requires c κs = copied-long (c .before .before .before .before .before .before .before .before .before .before .before .before .before .before .before .before .before)
+copy-cells-requires c κs = copied-long (c .before .before .before .before .before .before .before .before .before .before .before .before .before .before .before .before .before .before .before .before)
 
 array-share-prefix-copied : tie.Need-array-share-prefix-copied
 array-share-prefix-copied c = copied-hold (c .before .before) .fits
@@ -199,21 +224,21 @@ slice-aggregate-gather : tie.Need-slice-aggregate-gather
 slice-aggregate-gather c = sym (copied-hold (c .before .before .before) .long)
 
 array-share-prefix-labels : tie.Need-array-share-prefix-labels
-array-share-prefix-labels c = labels-hold (c .before .before .before .before .before .before .before .before .before .before) .fits
+array-share-prefix-labels c = labels-hold (c .before .before .before .before .before .before .before .before .before .before .before .before .before) .fits
 
 slice-aggregate-gather-2 : tie.Need-slice-aggregate-gather-2
-slice-aggregate-gather-2 c = sym (labels-hold (c .before .before .before .before .before .before .before .before .before .before .before) .long)
+slice-aggregate-gather-2 c = sym (labels-hold (c .before .before .before .before .before .before .before .before .before .before .before .before .before .before) .long)
 
 gather-requires : tie.Need-gather-requires
 gather-requires c κs =
-    let r = c .before .before .before .before .before .before .before .before .before .before .before .before in
+    let r = c .before .before .before .before .before .before .before .before .before .before .before .before .before .before .before in
     rw (copied-hold (c .before .before .before .before .before) .is, labels-hold r .is) (found r .each, (refl, (omega (arith, size-few (z r)), found r .among)))
 
 array-share-prefix-centroids : tie.Need-array-share-prefix-centroids
-array-share-prefix-centroids c = centroids-hold (c .before .before .before .before .before .before .before .before .before .before .before .before .before .before .before .before .before) .fits
+array-share-prefix-centroids c = centroids-hold (c .before .before .before .before .before .before .before .before .before .before .before .before .before .before .before .before .before .before .before .before) .fits
 
 slice-aggregate-balance-if : tie.Need-slice-aggregate-balance-if
-slice-aggregate-balance-if c = sym (centroids-hold (c .before .before .before .before .before .before .before .before .before .before .before .before .before .before .before .before .before .before) .long)
+slice-aggregate-balance-if c = sym (centroids-hold (c .before .before .before .before .before .before .before .before .before .before .before .before .before .before .before .before .before .before .before .before .before) .long)
 
 balance-if-requires : tie.Need-balance-if-requires
 balance-if-requires c κs =
@@ -232,30 +257,27 @@ balance-if-requires c κs =
       (rw k (s .pre .0 .limits .1 .0 .0), rw (k, n) (s .pre .1 .0)),
     )
 
-same-length : tie.Need-same-length
-same-length c = c .before .before .before .before .before .balance-if .kept .1 .1 .1 .1 .0 ∙ c .before .before .before .before .before .before .before .before .before .before .before .before .before .gather .kept .0
-
-same-length-2 : tie.Need-same-length-2
-same-length-2 c = c .before .before .before .before .before .balance-if .kept .1 .1 .1 .1 .1 .0 ∙ c .before .before .before .before .before .before .before .before .before .before .before .before .before .gather .kept .1 .1 .1 .0
-
-same-length-3 : tie.Need-same-length-3
-same-length-3 c =
-    let g = c .before .before .before .before .before .before .before .before .before .before .before .before .before .before .before .before .before .before .before .before .before .before .before .before .before .before .before .before .before .before .before .before .before .before in
-    length-front (start-of g .args .gathered .now) (g .gather-rows .last .1 .1 .1 .1 .0) (cells (start-of g)) (g .gather-rows .kept .1 .1 .1 .1 .0)
-
 same-length-4 : tie.Need-same-length-4
-same-length-4 c =
-    let r = c .before .before .before .before .before .before .before .before .before .before .before .before .before .before .before .before .before .before .before .before .before .before .before .before .before .before in
-    length-front (z r .args .training .now) (r .run-kmeans-flat .last .1 .1 .1 .1 .1 .1 .1 .1 .0) (cells (z r)) (r .run-kmeans-flat .kept .1 .1 .1 .1 .1 .1 .1 .1 .0)
+same-length-4 c = c .before .before .before .before .balance-if .kept .1 .1 .1 .1 .0 ∙ c .before .before .before .before .before .before .before .before .before .before .before .before .gather .kept .0
 
-returns : tie.Need-returns
-returns c =
-    let g = c .before .before .before .before .before .before .before .before .before .before .before .before .before in
+same-length-5 : tie.Need-same-length-5
+same-length-5 c = c .before .before .before .before .balance-if .kept .1 .1 .1 .1 .1 .0 ∙ c .before .before .before .before .before .before .before .before .before .before .before .before .gather .kept .1 .1 .1 .0
+
+same-length-6 : tie.Need-same-length-6
+same-length-6 c = gathered-same (c .before .before .before .before .before .before .before .before .before .before .before .before .before .before .before .before .before .before .before .before .before .before .before .before .before .before .before .before .before .before .before .before .before .before .before .before)
+
+same-length-7 : tie.Need-same-length-7
+same-length-7 c = training-same (c .before .before .before .before .before .before .before .before .before .before .before .before .before .before .before .before .before .before .before .before .before .before .before .before .before .before .before .before)
+
+returns-2 : tie.Need-returns-2
+returns-2 c =
+    let g = c .before .before .before .before .before .before .before .before .before .before .before .before in
     let r = run-of g in
     let s = z r in
     let some = s .pre .0 .limits .0 .0 in
-    split-done (s .args .dim) (table s) (s .args .weight) (s .pre .1 .1 .1 .1) (bits r) (size-few s) (ran r)
-    (rw (as-many some (s .pre .0 .value-cells), as-many some (centroids-hold r .long), centroids-hold r .is, g .gather .kept .0, g .gather .kept .1 .1 .1 .0) at (c .before .before .before .before .before .balance-if .ensures (made g) (laid g)))
+    let chosen = g .before .before .before .before .before .before .before .before .before in
+    split-done (s .args .config .mode) (s .args .dim) (table s) (s .args .config .weight) _ (s .pre .1 .1 .1 .1) (bits r) (size-few s) (ran r) (chosen .before .unplaced-refusal .ensures)
+    (λ e. rw (as-many some (s .pre .0 .value-cells), as-many some (centroids-hold r .long), centroids-hold r .is, g .gather .kept .0, g .gather .kept .1 .1 .1 .0) at (c .before .before .before .before .balance-if .ensures (made g) (laid g)))
 
 pub split-cluster-spec : {M : Type 1} → statement M
 split-cluster-spec =
@@ -279,6 +301,11 @@ split-cluster-spec =
     slice-relend-prefix-run-kmeans-flat
     slice-aggregate-run-kmeans-flat-4
     run-kmeans-flat-requires
+    unplaced-refusal-requires
+    same-length
+    same-length-2
+    same-length-3
+    returns
     array-borrow-prefix-copied
     slice-aggregate-copy-cells
     copy-cells-requires
@@ -290,8 +317,8 @@ split-cluster-spec =
     array-share-prefix-centroids
     slice-aggregate-balance-if
     balance-if-requires
-    same-length
-    same-length-2
-    same-length-3
     same-length-4
-    returns)
+    same-length-5
+    same-length-6
+    same-length-7
+    returns-2)

@@ -38,9 +38,9 @@ returns c =
     let a = l .before .before .before .before .args in
     let p = c .before .before .before .place-rows in
     let n = length (a .labels .now) in
-    subst (λ (answer : Answer (List Placement)). Gives answer n (p .result) (p .last .1 .1 .1 .1 .1 .0))
-    (ap (λ (m : ℕ). labelCall (a .rows) (a .dim) (a .k) (a .values .now) (a .centroids .now) n m) (lent l ∙ l .least .ensures)
-    ∙ room-enough (a .rows) (a .dim) (a .k) (a .values .now) (a .centroids .now) n)
+    subst (λ (answer : Answer (List Placement)). Gives answer n (p .result) (p .last .1 .1 .1 .1 .1 .1 .0))
+    (ap (λ (m : ℕ). labelCall (a .mode) (a .rows) (a .dim) (a .k) (a .values .now) (a .centroids .now) n m) (lent l ∙ l .least .ensures)
+    ∙ room-enough (a .mode) (a .rows) (a .dim) (a .k) (a .values .now) (a .centroids .now) n)
     (p .ensures .0)
 
 pub label-rows-spec : {M : Type 1} → statement M

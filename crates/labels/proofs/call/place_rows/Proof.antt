@@ -6,13 +6,15 @@ use lib.ListN.{length, take, drop, replicate, length-replicate}
 use lib.Seq.{length-take-le}
 use lib.Ieee.{binary32, ofBits}
 use Rattle.sums.specs.Rows.{rowsFrom}
+use Rattle.sums.specs.Sums.{zero32}
+use Rattle.sums.specs.Refusals.{blankCell}
 use Rattle.sums.proofs.Fronts.{Front, front}
 use Rattle.sums.proofs.Rows.{rows-length}
 use Rattle.labels.specs.Label.{nearests}
 use Rattle.labels.specs.Call.{labelRefusal}
 use Rattle.labels.specs.Inside.{normsOf, Assigned}
 use Rattle.labels.proofs.Searches.{norms-length}
-use Rattle.labels.proofs.Calls.{Fitting, fitting, gives-refused, gives-labels}
+use Rattle.labels.proofs.Calls.{Fitting, fitting, gives-refused, gives-lost, gives-labels}
 use Rattle.labels.proofs.Promises.{count-most}
 use borrow.Author.Needs.{needs}
 use Rattle.labels.proofs.call.place_rows.Statement.{statement}
@@ -79,7 +81,7 @@ same-length-2 c = search needs
 returns : tie.Need-returns
 returns c =
     let a = c .before .before .before .before .before .before .before .before .before .before .before .before .before .before .args in
-    gives-refused (a .rows) (a .dim) (a .k) (a .values .now) (a .centroids .now) (length (a .labels .now)) (length (a .distances .now)) (c .before .refusal .result) _ _
+    gives-refused (a .mode) (a .rows) (a .dim) (a .k) (a .values .now) (a .centroids .now) (length (a .labels .now)) (length (a .distances .now)) (c .before .refusal .result) _ _
     (asked (c .before)) (c .if1 .taken) (c .before .before .before .before .before .before .before .before .fill .ensures) (c .before .before .before .before .clear .ensures)
 
 array-borrow-prefix-norms : tie.Need-array-borrow-prefix-norms
@@ -110,8 +112,8 @@ assigned : (c : tie.After-struct-known) → let e = c .before .before .before .b
     (e .before .before .before .before .before .before .before .before .fill .last .0) (c .before .before .before .before .before .assign-rows .last .1 .1 .1 .1 .1 .0) (c .before .before .before .before .before .assign-rows .last .1 .1 .1 .1 .1 .1 .0) (c .before .before .before .before .before .assign-rows .result)
 assigned c = let e = c .before .before .before .before .before .before .before .before .before .before .before .before in rw (same-cells (e .before .before .before .before .before .before .before .before)) at (c .before .before .before .before .before .assign-rows .ensures)
 
-cast-t32 : tie.Need-cast-t32
-cast-t32 c =
+cast-unplaced : tie.Need-cast-unplaced
+cast-unplaced c =
     let e = c .before .before .before .before .before .before .before .before .before .before .before .before in
     let a = e .before .before .before .before .before .before .before .before .before .before .before .before .before .before .args in
     omega (
@@ -123,6 +125,15 @@ cast-t32 c =
       fits e .rows-in,
     )
 
+unplaced-refusal-requires : tie.Need-unplaced-refusal-requires
+unplaced-refusal-requires c κs = search needs
+
+fill-requires-2 : tie.Need-fill-requires-2
+fill-requires-2 c κs = search needs
+
+clear-requires-2 : tie.Need-clear-requires-2
+clear-requires-2 c κs = search needs
+
 same-length-3 : tie.Need-same-length-3
 same-length-3 c = search needs
 
@@ -131,10 +142,28 @@ same-length-4 c = search needs
 
 returns-2 : tie.Need-returns-2
 returns-2 c =
-    let e = c .before .before .before .before .before .before .before .before .before .before .before .before in
+    let s = c .before .before .before .before .before .before .before .before .before .before in
+    let e = s .before .before .before .before .before .before .before .before .before .before .before .before in
     let a = e .before .before .before .before .before .before .before .before .before .before .before .before .before .before .args in
-    gives-labels (a .rows) (a .dim) (a .k) (a .values .now) (a .centroids .now) (length (a .labels .now)) (length (a .distances .now)) _ _ _ _
-    (sym (asked (e .before)) ∙ e .if1 .left) (assigned c)
+    let r = s .before .before .before .before .before .assign-rows in
+    gives-lost (a .mode) (a .rows) (a .dim) (a .k) (a .values .now) (a .centroids .now) (length (a .labels .now)) (length (a .distances .now)) _ _ _ _ _ _ _
+    (sym (asked (e .before)) ∙ e .if1 .left) (assigned s) (c .before .before .before .before .before .before .before .before .before .unplaced-refusal .ensures) (c .before .before .before .before .before .before .before .before .if2 .taken)
+    (c .before .before .before .before .before .before .fill2 .ensures ∙ ap (λ (n : ℕ). replicate n blankCell) (r .kept .1 .1 .1 .1 .1 .0 ∙ same-cells (e .before .before .before .before .before .before .before .before)))
+    (c .before .before .clear2 .ensures ∙ ap (λ (n : ℕ). replicate n zero32) (r .kept .1 .1 .1 .1 .1 .1 .0 ∙ same-distances (e .before .before .before .before)))
+
+same-length-5 : tie.Need-same-length-5
+same-length-5 c = search needs
+
+same-length-6 : tie.Need-same-length-6
+same-length-6 c = search needs
+
+returns-3 : tie.Need-returns-3
+returns-3 c =
+    let s = c .before .before in
+    let e = s .before .before .before .before .before .before .before .before .before .before .before .before in
+    let a = e .before .before .before .before .before .before .before .before .before .before .before .before .before .before .args in
+    gives-labels (a .mode) (a .rows) (a .dim) (a .k) (a .values .now) (a .centroids .now) (length (a .labels .now)) (length (a .distances .now)) _ _ _ _
+    (sym (asked (e .before)) ∙ e .if1 .left) (sym (c .before .unplaced-refusal .ensures) ∙ c .if2 .left) (assigned s)
 
 pub place-rows-spec : {M : Type 1} → statement M
 place-rows-spec =
@@ -152,7 +181,13 @@ place-rows-spec =
     array-share-prefix-norms
     slice-aggregate-assign-rows
     assign-rows-requires
-    cast-t32
+    cast-unplaced
+    unplaced-refusal-requires
+    fill-requires-2
+    clear-requires-2
     same-length-3
     same-length-4
-    returns-2)
+    returns-2
+    same-length-5
+    same-length-6
+    returns-3)

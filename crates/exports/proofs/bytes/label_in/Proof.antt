@@ -1,4 +1,4 @@
-use Rattle.exports.proofs.Exporting.{LabelFits, label-fits, label-refused, label-given, gave-refused}
+use Rattle.exports.proofs.Exporting.{LabelFits, label-fits, label-refused, label-on, gave-refused}
 use Rattle.exports.specs.Exports.{labelRefusal}
 use Rattle.words.specs.Bytes.{bytes16}
 use lib.Ieee.{binary32, ofBits}
@@ -9,8 +9,8 @@ use mathlib.Core.Path.{_≡_, refl, sym, ap, _∙_}
 use Prim.Native.Nat.{ℕ, _*_, _≤_}
 use native.Mathlib.Omega.{arith}
 use borrow.Author.Needs.{needs}
-use Rattle.exports.proofs.bytes.families_label.Statement.{statement}
-use Rattle.exports.proofs.bytes.families_label.Tie as tie
+use Rattle.exports.proofs.bytes.label_in.Statement.{statement}
+use Rattle.exports.proofs.bytes.label_in.Tie as tie
 
 -- the result bytes are 255 after `fill`, and as many as they were
 filled : (c : tie.After-fill) → (length (c .fill .last .0) ≡ length (c .before .before .before .before .before .args .result .now)) × (c .fill .last .0 ≡ replicate (length (c .before .before .before .before .before .args .result .now)) 255)
@@ -40,7 +40,7 @@ same-length c = search needs
 returns : tie.Need-returns
 returns c =
     let a = c .before .before .before .before .before .before .before .before .before .args in
-    rw (label-refused (a .dim) (a .k) (a .row .now) (a .centroids .now) (length (a .result .now)) (c .before .label-refusal .result) (asked (c .before)) (c .if1 .taken))
+    rw (label-refused (a .mode) (a .dim) (a .k) (a .row .now) (a .centroids .now) (length (a .result .now)) (c .before .label-refusal .result) (asked (c .before)) (c .if1 .taken))
     (gave-refused bytes16 (length (a .result .now)) (c .before .label-refusal .result) _ (filled (c .before .before .before .before) .1))
 
 mul-m : tie.Need-mul-m
@@ -68,7 +68,8 @@ label-inside-requires c κs =
     let f = fits e in
     let v = length-take-le (a .dim) (replicate 64 (ofBits binary32 0)) (f .small) in
     let m = length-take-le (a .k * a .dim) (replicate 4096 (ofBits binary32 0)) (cells-fit e) in
-    ((f .row-is ∙ ap (λ (n : ℕ). n * 4) (sym v), f .centroids-are ∙ ap (λ (n : ℕ). n * 4) (sym m)), ((v, (m, refl)), ((f .some, (f .small, (f .one, f .few))), filled (e .before .before .before .before) .0 ∙ f .result-is)))
+    let b = filled (e .before .before .before .before) in
+    ((f .row-is ∙ ap (λ (n : ℕ). n * 4) (sym v), f .centroids-are ∙ ap (λ (n : ℕ). n * 4) (sym m)), ((v, (m, refl)), ((f .some, (f .small, (f .one, f .few))), (b .0 ∙ f .result-is, b .1 ∙ ap (λ (n : ℕ). replicate n 255) (sym (b .0))))))
 
 same-length-2 : tie.Need-same-length-2
 same-length-2 c = search needs
@@ -78,10 +79,11 @@ returns-2 c =
     let l = c .before .before .before .before .before in
     let e = l .before .before .before .before .before in
     let a = e .before .before .before .before .before .before .before .before .before .args in
-    label-given (a .dim) (a .k) (a .row .now) (a .centroids .now) (length (a .result .now)) (length (a .result .now)) _ (sym (asked (e .before)) ∙ e .if1 .left) (l .label-inside .ensures)
+    rw (label-on (a .mode) (a .dim) (a .k) (a .row .now) (a .centroids .now) (length (a .result .now)) (sym (asked (e .before)) ∙ e .if1 .left))
+    (rw (filled (e .before .before .before .before) .0) at (l .label-inside .ensures))
 
-pub families-label-spec : {M : Type 1} → statement M
-families-label-spec =
+pub label-in-spec : {M : Type 1} → statement M
+label-in-spec =
     tie.close
     (tie.spec
     fill-requires

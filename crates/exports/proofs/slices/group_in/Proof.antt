@@ -1,8 +1,7 @@
 use Rattle.exports.proofs.Exporting.{group-gave}
-use native.Mathlib.Omega.{arith}
 use borrow.Author.Needs.{needs}
-use Rattle.exports.proofs.slices.families_group.Statement.{statement}
-use Rattle.exports.proofs.slices.families_group.Tie as tie
+use Rattle.exports.proofs.slices.group_in.Statement.{statement}
+use Rattle.exports.proofs.slices.group_in.Tie as tie
 
 hierarchical-clustering-requires : tie.Need-hierarchical-clustering-requires
 hierarchical-clustering-requires c κs = search needs
@@ -28,11 +27,10 @@ same-length-5 c = c .before .before .before .before .before .before .before .bef
 returns : tie.Need-returns
 returns c =
     let h = c .before .before .before .before .before .before .before .before .before .before .before .before .before .before .hierarchical-clustering in
-    let g = group-gave _ _ _ _ _ _ _ _ _ _ _ _ _ _ (h .ensures .0) (c .put-counts .ensures .0) (c .put-counts .ensures .1) in
-    ((g .0, (g .1 .1 .1 .1 .0, (g .1 .1 .1 .1 .1 .0, g .1 .1 .1 .1 .1 .1))), ((g .1 .0, (g .1 .1 .0, g .1 .1 .1 .0)), h .ensures .1))
+    (group-gave _ _ _ _ _ _ _ _ _ _ _ _ _ _ (h .ensures .0) (c .put-counts .ensures .0) (c .put-counts .ensures .1), h .ensures .1)
 
-pub families-group-spec : {M : Type 1} → statement M
-families-group-spec =
+pub group-in-spec : {M : Type 1} → statement M
+group-in-spec =
     tie.close
     (tie.spec
     hierarchical-clustering-requires

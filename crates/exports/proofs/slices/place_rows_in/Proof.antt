@@ -1,7 +1,7 @@
 use Rattle.exports.proofs.Exporting.{label-gave}
 use borrow.Author.Needs.{needs}
-use Rattle.exports.proofs.slices.families_place_rows.Statement.{statement}
-use Rattle.exports.proofs.slices.families_place_rows.Tie as tie
+use Rattle.exports.proofs.slices.place_rows_in.Statement.{statement}
+use Rattle.exports.proofs.slices.place_rows_in.Tie as tie
 
 place-rows-requires : tie.Need-place-rows-requires
 place-rows-requires c κs = search needs
@@ -18,9 +18,8 @@ same-length-2 c = search needs
 returns : tie.Need-returns
 returns c =
     let l = c .before .before .before .before .before .before .place-rows in
-    let g = label-gave _ _ _ _ _ _ (l .ensures .0) (c .put-unplaced .ensures .0) (c .put-unplaced .ensures .1) in
-    (g .0, (l .ensures .0 .labels, (l .ensures .1, g .1)))
+    (label-gave _ _ _ _ _ _ (l .ensures .0) (c .put-unplaced .ensures .0) (c .put-unplaced .ensures .1), l .ensures .1)
 
-pub families-place-rows-spec : {M : Type 1} → statement M
-families-place-rows-spec =
+pub place-rows-in-spec : {M : Type 1} → statement M
+place-rows-in-spec =
     tie.close (tie.spec place-rows-requires put-unplaced-requires same-length same-length-2 returns)
