@@ -119,29 +119,38 @@ TWO_WAYS(PLACE_ROWS_OF, families_place_rows)
 
 #define KMEANS_OF(name, way)                                                                            \
     uint32_t name(uint32_t rows, uint32_t dim, uint32_t k, uint32_t iterations, uint32_t restarts,      \
-                  uint32_t points, uint32_t block, SLICE(const uint32_t, draws),                        \
+                  uint32_t points, uint32_t block, uint32_t spherical, SLICE(const uint32_t, draws),    \
                   SLICE(const float, values), SLICE(uint16_t, labels), SLICE(float, centroids),         \
                   double *objective, uint32_t *restart, uint32_t *unplaced, SLICE(float, training)) {   \
         struct lent lent[] = {                                                                          \
             READ(draws),       READ(values),    WRITTEN(labels),  WRITTEN(centroids),                   \
             FIGURE(objective), FIGURE(restart), FIGURE(unplaced), WRITTEN(training),                    \
         };                                                                                              \
-        FORWARD(KMEANS, way, rows, dim, k, iterations, restarts, points, block);                        \
+        FORWARD(KMEANS, way, rows, dim, k, iterations, restarts, points, block, spherical);             \
     }
 TWO_WAYS(KMEANS_OF, families_kmeans)
 
 #define GROUP_OF(name, way)                                                                             \
     uint32_t name(uint32_t rows, uint32_t dim, uint32_t limit, uint32_t branching, float weight,        \
-                  uint32_t budget, SLICE(const uint32_t, draws), SLICE(const float, values),            \
-                  SLICE(uint16_t, order), SLICE(uint16_t, ends), SLICE(float, means), uint32_t *groups, \
+                  uint32_t budget, uint32_t spherical, SLICE(const uint32_t, draws),                    \
+                  SLICE(const float, values), SLICE(uint16_t, order), SLICE(uint16_t, ends),            \
+                  SLICE(float, means), uint32_t *groups,                                                \
                   uint32_t *splits, uint32_t *unplaced, SLICE(float, gathered), SLICE(float, training)) { \
         struct lent lent[] = {                                                                          \
             READ(draws),    READ(values),   WRITTEN(order),   WRITTEN(ends),     WRITTEN(means),        \
             FIGURE(groups), FIGURE(splits), FIGURE(unplaced), WRITTEN(gathered), WRITTEN(training),     \
         };                                                                                              \
-        FORWARD(GROUP, way, rows, dim, limit, branching, bits(weight), budget);                         \
+        FORWARD(GROUP, way, rows, dim, limit, branching, bits(weight), budget, spherical);              \
     }
 TWO_WAYS(GROUP_OF, families_group)
+
+float families_root(float x) {
+    struct header header = {ROOT, STRICT, 0, {bits(x)}};
+    uint32_t root = forward(&header, NULL);
+    float value;
+    memcpy(&value, &root, sizeof value);
+    return value;
+}
 
 uint32_t families_list(SLICE(const uint8_t, file), SLICE(uint8_t, text)) {
     struct lent lent[] = {READ(file), WRITTEN(text)};

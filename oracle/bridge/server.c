@@ -114,6 +114,12 @@ static float float_of(uint32_t bits) {
     return value;
 }
 
+static uint32_t bits_of(float value) {
+    uint32_t bits;
+    memcpy(&bits, &value, sizeof bits);
+    return bits;
+}
+
 // A slice goes as its pointer and its number of cells, a figure as its pointer.
 #define TWO void *, size_t
 #define SLICE(i) lent[i].at, lent[i].cells
@@ -126,10 +132,11 @@ TWO_WAYS(families_label, uint32_t, uint32_t, TWO, TWO, TWO);
 uint32_t families_closure(uint32_t, uint32_t, uint16_t, float, TWO, TWO, TWO);
 TWO_WAYS(families_label_rows, uint32_t, uint32_t, uint32_t, TWO, TWO, TWO, uint32_t *);
 TWO_WAYS(families_place_rows, uint32_t, uint32_t, uint32_t, TWO, TWO, TWO, TWO, uint32_t *);
-TWO_WAYS(families_kmeans, uint32_t, uint32_t, uint32_t, uint32_t, uint32_t, uint32_t, uint32_t, TWO, TWO, TWO, TWO, double *, uint32_t *,
-         uint32_t *, TWO);
-TWO_WAYS(families_group, uint32_t, uint32_t, uint32_t, uint32_t, float, uint32_t, TWO, TWO, TWO, TWO, TWO, uint32_t *, uint32_t *,
-         uint32_t *, TWO, TWO);
+TWO_WAYS(families_kmeans, uint32_t, uint32_t, uint32_t, uint32_t, uint32_t, uint32_t, uint32_t, uint32_t, TWO, TWO, TWO, TWO, double *,
+         uint32_t *, uint32_t *, TWO);
+TWO_WAYS(families_group, uint32_t, uint32_t, uint32_t, uint32_t, float, uint32_t, uint32_t, TWO, TWO, TWO, TWO, TWO, uint32_t *,
+         uint32_t *, uint32_t *, TWO, TWO);
+float families_root(float);
 uint32_t families_list(TWO, TWO);
 
 static uint32_t call(uint32_t which, uint32_t way, const uint32_t *n) {
@@ -144,12 +151,14 @@ static uint32_t call(uint32_t which, uint32_t way, const uint32_t *n) {
     case PLACE_ROWS:
         return ASKED(families_place_rows)(n[0], n[1], n[2], SLICE(0), SLICE(1), SLICE(2), SLICE(3), FIGURE(4));
     case KMEANS:
-        return ASKED(families_kmeans)(n[0], n[1], n[2], n[3], n[4], n[5], n[6], SLICE(0), SLICE(1), SLICE(2), SLICE(3), FIGURE(4),
+        return ASKED(families_kmeans)(n[0], n[1], n[2], n[3], n[4], n[5], n[6], n[7], SLICE(0), SLICE(1), SLICE(2), SLICE(3), FIGURE(4),
                                       FIGURE(5), FIGURE(6), SLICE(7));
     case LIST:
         return families_list(SLICE(0), SLICE(1));
+    case ROOT:
+        return bits_of(families_root(float_of(n[0])));
     default:
-        return ASKED(families_group)(n[0], n[1], n[2], n[3], float_of(n[4]), n[5], SLICE(0), SLICE(1), SLICE(2), SLICE(3), SLICE(4),
+        return ASKED(families_group)(n[0], n[1], n[2], n[3], float_of(n[4]), n[5], n[6], SLICE(0), SLICE(1), SLICE(2), SLICE(3), SLICE(4),
                                      FIGURE(5), FIGURE(6), FIGURE(7), SLICE(8), SLICE(9));
     }
 }

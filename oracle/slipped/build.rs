@@ -11,7 +11,7 @@ struct Slip {
     edits: &'static [(&'static str, usize, &'static str)],
 }
 
-const SLIPS: [Slip; 20] = [
+const SLIPS: [Slip; 29] = [
     // Scores are squared differences instead of the norm formula.
     Slip {
         name: "squared_differences",
@@ -275,6 +275,119 @@ const SLIPS: [Slip; 20] = [
         name: "listing_in_old_way",
         file: "batch.rs",
         edits: &[("grouping(Mode::Strict,", 1, "grouping(Mode::OldWay,")],
+    },
+    // Request (iv): the rows are normalised.
+    Slip {
+        name: "rows_normalized",
+        file: "kmeans.rs",
+        edits: &[(
+            "let picked = select_training_indices(",
+            1,
+            "let mut scaled = flat.to_vec();
+    if config.spherical {
+        normalize_centroids(&mut scaled, rows, dim);
+    }
+    let flat = &scaled[..];
+    let picked = select_training_indices(",
+        )],
+    },
+    // Request (iv): the picks are normalised before the first iteration.
+    Slip {
+        name: "picks_normalized",
+        file: "kmeans.rs",
+        edits: &[(
+            "for _ in 0..iterations {",
+            1,
+            "if spherical {
+        normalize_centroids(centroids, k, dim);
+    }
+    for _ in 0..iterations {",
+        )],
+    },
+    // Request (iv): values are divided by the root.
+    Slip {
+        name: "divided_by_root",
+        file: "kmeans.rs",
+        edits: &[
+            (
+                "let inverse = norm.sqrt().recip();",
+                1,
+                "let root = norm.sqrt();",
+            ),
+            ("*value *= inverse;", 1, "*value /= root;"),
+        ],
+    },
+    // Request (iv): the root of 2 at any scale is one unit too large.
+    Slip {
+        name: "root_one_off",
+        file: "kmeans.rs",
+        edits: &[(
+            "norm.sqrt().recip()",
+            1,
+            "f32::from_bits(norm.sqrt().to_bits() + u32::from(norm.to_bits() << 8 == 0)).recip()",
+        )],
+    },
+    // Request (iv): a centroid whose norm is NaN is normalised.
+    Slip {
+        name: "nan_normalized",
+        file: "kmeans.rs",
+        edits: &[("if norm > 0.0 {", 1, "if norm > 0.0 || norm.is_nan() {")],
+    },
+    // Request (iv): refilled centroids are left as they are.
+    Slip {
+        name: "refills_left_out",
+        file: "kmeans.rs",
+        edits: &[(
+            "normalize_centroids(centroids, k, dim);",
+            1,
+            "for cluster in (0..k).filter(|&cluster| summary.counts[cluster] > 0) {
+                normalize_centroids(&mut centroids[cluster * dim..][..dim], 1, dim);
+            }",
+        )],
+    },
+    // Request (iv): the last iteration ends with what the update gives.
+    Slip {
+        name: "last_left_out",
+        file: "kmeans.rs",
+        edits: &[
+            (
+                "for _ in 0..iterations {",
+                1,
+                "for iteration in 1..=iterations {",
+            ),
+            (
+                "if spherical {",
+                1,
+                "if spherical && iteration < iterations {",
+            ),
+        ],
+    },
+    // Request (iv): grouping keeps the setting to itself, as the source's `run_kmeans` does.
+    Slip {
+        name: "not_passed_on",
+        file: "clustering.rs",
+        edits: &[(
+            "self.max_iterations, self.spherical,",
+            1,
+            "self.max_iterations, false,",
+        )],
+    },
+    // Request (iv): the means of families are normalised.
+    Slip {
+        name: "means_normalized",
+        file: "clustering.rs",
+        edits: &[(
+            ".map(Cluster::from_data)",
+            1,
+            ".map(|part| {
+                let mut part = Cluster::from_data(part);
+                let norm = part.centroid.iter().fold(0.0, |sum: f32, v| sum + v * v);
+                if self.spherical && norm > 0.0 {
+                    part.centroid.iter_mut().for_each(|value| *value *= norm.sqrt().recip());
+                }
+                part
+            })",
+        )],
     },
 ];
 

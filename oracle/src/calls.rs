@@ -164,6 +164,8 @@ pub struct KMeansNumbers {
     pub restarts: u32,
     pub points_per_centroid: u32,
     pub block: u32,
+    /// 0 is off and every other number on, so that none is out of range.
+    pub spherical: u32,
 }
 
 impl KMeansNumbers {
@@ -183,6 +185,7 @@ impl KMeansNumbers {
         KMeansConfig {
             niter: self.iterations as usize,
             nredo: self.restarts as usize,
+            spherical: self.spherical != 0,
             max_points_per_centroid: self.points_per_centroid as usize,
             decode_block_size: self.block as usize,
         }
@@ -253,6 +256,8 @@ pub struct GroupingNumbers {
     pub branching: u32,
     pub weight: f32,
     pub budget: u32,
+    /// As that of k-means, which it is passed on to.
+    pub spherical: u32,
 }
 
 impl GroupingNumbers {
@@ -330,6 +335,7 @@ pub fn grouping(
         numbers.branching as usize,
         numbers.weight,
         numbers.budget as usize,
+        numbers.spherical != 0,
         mode,
     );
     let found = clustering.cluster(&members(values, dim), &mut Draws::new(draws))?;

@@ -16,6 +16,8 @@ mod grouping;
 mod kmeans;
 mod labelling;
 mod placing;
+mod scales;
+mod spherical;
 mod unplaced;
 mod values;
 
@@ -26,6 +28,7 @@ pub use grouping::{GroupingCase, GroupingOutcome};
 pub use kmeans::{KMeansCase, KMeansOutcome, RestartsCase};
 pub use labelling::{LabelCase, LabelOutcome};
 pub use placing::{PlaceCase, PlaceOutcome};
+pub use spherical::{SphericalCase, SphericalGroupingCase, ON, SHOWS};
 
 pub trait Case: Debug + Sized {
     type Outcome: Debug + PartialEq;

@@ -1,6 +1,7 @@
 //! `src/mstg/clustering.rs` of the source, its functions in its order: members carry row numbers,
 //! draws stand for the generator, splits have a budget, where the source would panic the call is
-//! refused, and in the strict mode it is for an unplaced row too; without progress lines.
+//! refused, and in the strict mode it is for an unplaced row too, and `spherical` is passed on to
+//! k-means; without progress lines.
 
 use crate::draws::Draws;
 use crate::kmeans::run_kmeans;
@@ -40,6 +41,7 @@ pub struct HierarchicalClustering {
     pub balance_weight: f32,
     pub max_iterations: usize,
     pub split_budget: usize,
+    pub spherical: bool,
     pub mode: Mode,
 }
 
@@ -49,6 +51,7 @@ impl HierarchicalClustering {
         branching_factor: usize,
         balance_weight: f32,
         split_budget: usize,
+        spherical: bool,
         mode: Mode,
     ) -> Self {
         Self {
@@ -57,6 +60,7 @@ impl HierarchicalClustering {
             balance_weight,
             max_iterations: 100,
             split_budget,
+            spherical,
             mode,
         }
     }
@@ -110,7 +114,7 @@ impl HierarchicalClustering {
         let k = self.branching_factor;
         let members = cluster.data();
 
-        let found = run_kmeans(members, k, self.max_iterations, draws);
+        let found = run_kmeans(members, k, self.max_iterations, self.spherical, draws);
         self.mode.check_placed(found.unplaced)?;
 
         let mut parts: Vec<Vec<Member>> = vec![vec![]; k];

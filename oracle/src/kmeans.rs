@@ -1,6 +1,6 @@
 //! `src/kmeans.rs` of the source, its functions in its order: sums in stated order for `sgemm`, one
 //! fold in block order for the parallel ones, draws for the generator, document 01's order where a
-//! sort meets ties, placements for bare labels; without `spherical`, the seed and progress lines.
+//! sort meets ties, placements for bare labels; without the seed and progress lines.
 
 use std::cmp::Ordering;
 
@@ -15,6 +15,7 @@ const DEFAULT_DECODE_BLOCK_SIZE: usize = 32_768;
 pub struct KMeansConfig {
     pub niter: usize,
     pub nredo: usize,
+    pub spherical: bool,
     pub max_points_per_centroid: usize,
     pub decode_block_size: usize,
 }
@@ -24,6 +25,7 @@ impl Default for KMeansConfig {
         Self {
             niter: 25,
             nredo: 1,
+            spherical: false,
             max_points_per_centroid: DEFAULT_MAX_POINTS_PER_CENTROID,
             decode_block_size: DEFAULT_DECODE_BLOCK_SIZE,
         }
@@ -41,16 +43,19 @@ pub struct KMeansResult {
     pub unplaced: u32,
 }
 
-/// Generic in the vector, so that members which carry a row number can be passed as they are.
+/// Generic in the vector, so that members which carry a row number can be passed as they are. The
+/// source fixes `spherical` to false here; it is the caller's.
 pub fn run_kmeans<V: AsRef<[f32]>>(
     data: &[V],
     k: usize,
     max_iter: usize,
+    spherical: bool,
     draws: &mut Draws,
 ) -> KMeansResult {
     let config = KMeansConfig {
         niter: max_iter,
         nredo: 1,
+        spherical,
         max_points_per_centroid: DEFAULT_MAX_POINTS_PER_CENTROID,
         decode_block_size: DEFAULT_DECODE_BLOCK_SIZE,
     };
@@ -106,6 +111,7 @@ pub fn run_kmeans_flat(
             &training_norms,
             &mut training_labels,
             draws,
+            config.spherical,
             config.decode_block_size,
         );
 
@@ -259,6 +265,7 @@ fn run_lloyd_iterations(
     norms: &[f32],
     assignments: &mut [usize],
     draws: &mut Draws,
+    spherical: bool,
     decode_block_size: usize,
 ) {
     let mut columns = Vec::with_capacity(dim * k);
@@ -279,6 +286,10 @@ fn run_lloyd_iterations(
         );
 
         update_centroids(centroids, k, dim, data, &summary, draws);
+
+        if spherical {
+            normalize_centroids(centroids, k, dim);
+        }
     }
 }
 
@@ -302,6 +313,23 @@ pub(crate) fn rebuild_centroid_views(
             sum += value * value;
         }
         column_norms[cluster] = sum;
+    }
+}
+
+fn normalize_centroids(centroids: &mut [f32], k: usize, dim: usize) {
+    for cluster in 0..k {
+        let centroid = &mut centroids[cluster * dim..][..dim];
+        let mut norm = 0.0f32;
+        for value in centroid.iter() {
+            norm += value * value;
+        }
+        // False for NaN too, so that such a centroid stays as it is.
+        if norm > 0.0 {
+            let inverse = norm.sqrt().recip();
+            for value in centroid {
+                *value *= inverse;
+            }
+        }
     }
 }
 
@@ -681,6 +709,104 @@ mod tests {
         // The second draw is 5, since it is a pass later.
         assert_eq!(centroids, [7.0, 6.0, 7.0]);
         assert_eq!(draws.made(), 2);
+    }
+
+    /// A centroid after it was normalised, by bits.
+    fn normalized<const DIM: usize>(mut centroid: [f32; DIM]) -> [u32; DIM] {
+        normalize_centroids(&mut centroid, 1, DIM);
+        centroid.map(f32::to_bits)
+    }
+
+    fn assert_normalized<const DIM: usize>(centroid: [f32; DIM], expected: [f32; DIM]) {
+        assert_eq!(normalized(centroid), expected.map(f32::to_bits));
+    }
+
+    #[test]
+    fn a_centroid_is_taken_times_the_reciprocal_of_its_root() {
+        assert_normalized([3.0, -4.0], [3.0 * 0.2, -4.0 * 0.2]);
+        // The root of 53 is one by which dividing would give another float.
+        let root = 53.0f32.sqrt();
+        assert_ne!(7.0 * (1.0 / root), 7.0 / root);
+        assert_normalized([7.0, 2.0], [7.0 * (1.0 / root), 2.0 * (1.0 / root)]);
+        // From the first value on 2^24 takes in neither 1, and from the last it takes in both.
+        let falling = [4_096.0, 1.0, 1.0];
+        assert_normalized(falling, falling.map(|value| value / 4_096.0));
+        let rising = [1.0, 1.0, 4_096.0];
+        let inverse = 1.0 / 16_777_218.0f32.sqrt();
+        assert_normalized(rising, rising.map(|value| value * inverse));
+        // -0.0 stays, and each centroid has a norm of its own.
+        assert_normalized([-0.0, 2.0], [-0.0, 1.0]);
+        let mut two = [2.0, 0.0, 0.0, 8.0];
+        normalize_centroids(&mut two, 2, 2);
+        assert_eq!(two, [1.0, 0.0, 0.0, 1.0]);
+    }
+
+    #[test]
+    fn a_norm_that_is_not_above_zero_leaves_its_centroid() {
+        assert_normalized([0.0, -0.0], [0.0, -0.0]);
+        // Squares that vanish.
+        assert_normalized([1e-30, -2e-30], [1e-30, -2e-30]);
+        let [nan, three] = normalized([f32::NAN, 3.0]).map(f32::from_bits);
+        assert!(nan.is_nan() && three == 3.0);
+    }
+
+    #[test]
+    fn norms_at_the_ends_have_roots_too() {
+        // An infinite norm: the inverse is 0, by which a number is 0 and infinity is none.
+        assert_normalized([1e30, -1e30], [0.0, -0.0]);
+        let [lost, zero] = normalized([f32::INFINITY, -3.0]).map(f32::from_bits);
+        assert!(lost.is_nan() && zero.to_bits() == (-0.0f32).to_bits());
+        // The smallest norm of all, 2^-149, whose root is no power of two.
+        let small = f32::from_bits(0x1a35_04f3);
+        assert_eq!((small * small).to_bits(), 1);
+        let inverse = 1.0 / f32::from_bits(1).sqrt();
+        assert_normalized([small], [small * inverse]);
+    }
+
+    /// One restart over rows of two values that all train, with draws of zero: the first rows are picked.
+    fn spherical(values: &[f32], k: usize, niter: usize) -> KMeansResult {
+        let config = KMeansConfig {
+            niter,
+            spherical: true,
+            ..KMeansConfig::default()
+        };
+        let draws = &mut Draws::new(&[0; 8]);
+        run_kmeans_flat(values, values.len() / 2, 2, k, config, draws)
+    }
+
+    #[test]
+    fn picks_and_rows_are_not_normalized() {
+        // The third row is nearer to (0, 1) than to (10, 0), and nearer to (1, 0) than to (0, 1).
+        let found = spherical(&[10.0, 0.0, 0.0, 1.0, 1.0, 0.9], 2, 1);
+        let mean = [0.5f32, 0.95];
+        let inverse = (mean[0] * mean[0] + mean[1] * mean[1]).sqrt().recip();
+        let scaled = mean.map(|value| value * inverse).to_vec();
+        assert_eq!(found.centroids, [vec![1.0, 0.0], scaled]);
+        // The labels and the objective go by these centroids, and by the rows as they are.
+        assert_eq!(found.assignments, [0, 1, 1]);
+        assert!(found.objective > 81.0);
+    }
+
+    #[test]
+    fn refilled_centroids_are_normalized() {
+        // All rows are nearest to the first pick or the third, so the second is refilled with the farthest row.
+        let found = spherical(&[0.0, 2.0, 0.0, 2.0, 5.0, 0.0, 0.0, 3.0], 3, 1);
+        assert_eq!(found.centroids[1], [0.0, 1.0]);
+        // Ten equal rows and as many clusters: refilled from the pool, and the last from a draw.
+        let equal = spherical(&[3.0, 0.0].repeat(10), 10, 2);
+        assert!(equal
+            .centroids
+            .iter()
+            .all(|centroid| *centroid == [1.0, 0.0]));
+    }
+
+    #[test]
+    fn the_last_iteration_is_normalized_too() {
+        for niter in [1, 2, 25] {
+            let found = spherical(&[3.0, 4.0, 0.6, 0.8], 1, niter);
+            let norm = compute_norms(&found.centroids[0], 1, 2)[0];
+            assert!((norm - 1.0).abs() < 1e-6);
+        }
     }
 
     #[test]

@@ -5,7 +5,8 @@ use std::collections::BTreeMap;
 use oracle::calls::{label_bytes, BLANK_CELL};
 use oracle::cases::{
     BatchCase, Case, ClosureBytesCase, ClosureCase, GroupingCase, GroupingOutcome, KMeansCase,
-    LabelBytesCase, LabelCase, PlaceCase, RestartsCase, TwoWays,
+    LabelBytesCase, LabelCase, PlaceCase, RestartsCase, SphericalCase, SphericalGroupingCase,
+    TwoWays, ON, SHOWS,
 };
 use oracle::refusal::Mode;
 
@@ -43,6 +44,8 @@ fn every_refusal_is_met() {
     assert_met::<LabelCase>(&[0, 1, 2]);
     assert_met::<PlaceCase>(&[0, 1, 2]);
     assert_met::<KMeansCase>(&[0, 1, 2, 3, 4]);
+    assert_met::<SphericalCase>(&[0, 1, 2, 3, 4]);
+    assert_met::<SphericalGroupingCase>(&[0, 1, 2, 4, 6, 7]);
     assert_met::<ClosureCase>(&[0, 1, 2, 5]);
     assert_met::<LabelBytesCase>(&[0, 1, 2]);
     assert_met::<ClosureBytesCase>(&[0, 1, 2, 5]);
@@ -53,6 +56,8 @@ fn every_refusal_is_met_in_the_strict_mode() {
     assert_strict_met::<LabelCase>(&[0, 1, 2, 9]);
     assert_strict_met::<PlaceCase>(&[0, 1, 2, 9]);
     assert_strict_met::<KMeansCase>(&[0, 1, 2, 3, 4, 9]);
+    assert_strict_met::<SphericalCase>(&[0, 1, 2, 3, 4, 9]);
+    assert_strict_met::<SphericalGroupingCase>(&[0, 1, 2, 4, 6, 7, 9]);
     assert_strict_met::<LabelBytesCase>(&[0, 1, 2, 9]);
     assert_strict_met::<GroupingCase>(&[0, 1, 2, 4, 6, 7, 9]);
 }
@@ -71,6 +76,8 @@ fn both_ways_go_together() {
     assert_ways_go_together::<PlaceCase>();
     assert_ways_go_together::<KMeansCase>();
     assert_ways_go_together::<RestartsCase>();
+    assert_ways_go_together::<SphericalCase>();
+    assert_ways_go_together::<SphericalGroupingCase>();
     assert_ways_go_together::<LabelBytesCase>();
     assert_ways_go_together::<GroupingCase>();
 }
@@ -128,6 +135,8 @@ fn a_seed_and_an_index_name_a_case() {
     assert_repeatable::<PlaceCase>();
     assert_repeatable::<KMeansCase>();
     assert_repeatable::<GroupingCase>();
+    assert_repeatable::<SphericalCase>();
+    assert_repeatable::<SphericalGroupingCase>();
     assert_repeatable::<ClosureCase>();
     assert_repeatable::<LabelBytesCase>();
     assert_repeatable::<ClosureBytesCase>();
@@ -195,7 +204,8 @@ fn assert_partition(case: &GroupingCase, outcome: &GroupingOutcome, groups: usiz
 
 #[test]
 fn an_accepted_grouping_holds_each_row_once() {
-    for case in all::<GroupingCase>() {
+    let spherical = all::<SphericalGroupingCase>().map(|spherical| spherical.case);
+    for case in all::<GroupingCase>().chain(spherical) {
         let outcome = case.run();
         if let Ok(accepted) = outcome.answer {
             assert_partition(&case, &outcome, accepted.groups as usize);
@@ -234,7 +244,8 @@ fn a_label_depends_on_its_own_row() {
 
 #[test]
 fn kmeans_labels_are_labels_of_its_centroids() {
-    for case in all::<KMeansCase>() {
+    let spherical = all::<SphericalCase>().map(|spherical| spherical.case);
+    for case in all::<KMeansCase>().chain(spherical) {
         let outcome = case.run();
         if outcome.answer.is_err() {
             continue;
@@ -375,6 +386,56 @@ fn every_kind_of_unplaced_row_is_met_in_kmeans_and_grouping() {
             "more unplaced than there are rows",
         ],
     );
+}
+
+/// Request (iv) of document 02: every number but 0 is on, and on shows.
+#[test]
+fn every_number_but_0_is_on() {
+    let mut case = SphericalCase::built()[0].case.clone();
+    let mut outcome_by = |number| {
+        case.numbers.spherical = number;
+        case.run()
+    };
+    let [off, on] = [0, 1].map(&mut outcome_by);
+    assert_ne!(off, on);
+    for number in [2, 256, 65_536, 1 << 31, u32::MAX] {
+        assert_eq!(outcome_by(number), on, "{number}");
+    }
+}
+
+/// The kinds that a tally needs are met by these few cases too.
+#[test]
+fn most_cases_show_that_the_setting_is_on() {
+    let met = |kinds: Vec<Vec<&str>>| {
+        [ON, SHOWS].map(|kind| kinds.iter().filter(|kinds| kinds.contains(&kind)).count())
+    };
+    let kmeans = all::<SphericalCase>().map(|case| case.kinds(Mode::OldWay, &case.run()));
+    let grouping = all::<SphericalGroupingCase>();
+    let grouping = grouping.map(|case| case.kinds(Mode::Strict, &case.run_in(Mode::Strict)));
+    for [on, shows] in [met(kmeans.collect()), met(grouping.collect())] {
+        println!("on {on}, other answers with it off {shows}");
+        assert!(on as u64 > CASES / 2 && shows as u64 > CASES / 10);
+    }
+}
+
+/// Two shapes at four scales: with it off the smaller rows of both are a family, with it on the rows of each are.
+#[test]
+fn gain_only_rows_are_grouped_by_shape() {
+    let mut case = SphericalGroupingCase::gains().case;
+    let outcome = case.run();
+    let mut families: Vec<Vec<u16>> = [&outcome.order[..4], &outcome.order[4..]]
+        .map(<[u16]>::to_vec)
+        .into();
+    families.sort();
+    assert_eq!(outcome.ends[..2], [4, 8]);
+    assert_eq!(families, [[0, 2, 4, 6], [1, 3, 5, 7]]);
+    // A family's mean is that of its rows: the gains' mean, 1.875, times the shape.
+    let first = f32::from_bits(outcome.means[0]).abs();
+    assert!((first - 1.875 * 0.8).abs() < 1e-6 || (first - 1.875 * 0.6).abs() < 1e-6);
+    case.numbers.spherical = 0;
+    let mut family = case.run().order[..4].to_vec();
+    family.sort_unstable();
+    assert!(family.iter().any(|row| row % 2 == 0) && family.iter().any(|row| row % 2 == 1));
 }
 
 fn objective_of(case: &KMeansCase) -> (f64, u32) {

@@ -48,7 +48,7 @@ fn balanced(sizes: &[usize], weight: f32) -> (Vec<usize>, usize) {
         .map(|&n| (0..n).map(member).collect())
         .collect();
     let centroids = vec![vec![0.0]; sizes.len()];
-    let clustering = HierarchicalClustering::new(0, sizes.len(), weight, 0, Mode::Strict);
+    let clustering = HierarchicalClustering::new(0, sizes.len(), weight, 0, false, Mode::Strict);
     let after: Vec<usize> = clustering
         .balance_clusters(clusters, &centroids)
         .iter()
@@ -173,6 +173,7 @@ fn p10_kmeans_of_two() {
         restarts: 1,
         points_per_centroid: 256,
         block: 32_768,
+        spherical: 0,
     };
     for mode in Mode::BOTH {
         let (mut labels, mut centroids) = ([9; 2], [9.0; 1]);
@@ -225,7 +226,8 @@ fn defaults_are_the_sources() {
     assert_eq!((config.niter, config.nredo), (25, 1));
     assert_eq!(config.max_points_per_centroid, 256);
     assert_eq!(config.decode_block_size, 32_768);
-    let clustering = HierarchicalClustering::new(1, 2, 0.0, 3, Mode::Strict);
+    assert!(!config.spherical);
+    let clustering = HierarchicalClustering::new(1, 2, 0.0, 3, false, Mode::Strict);
     assert_eq!(clustering.max_iterations, 100);
 }
 

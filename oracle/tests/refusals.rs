@@ -59,6 +59,7 @@ fn kmeans_case() -> KMeansCase {
             restarts: 2,
             points_per_centroid: 256,
             block: 32_768,
+            spherical: 0,
         },
         values: (0..8).map(|i| i as f32).collect(),
         draws: vec![1, 2, 3],
@@ -176,6 +177,7 @@ fn the_largest_calls_are_accepted() {
         restarts: 1,
         points_per_centroid: 4_096,
         block: 32_768,
+        spherical: 0,
     };
     case.values = vec![1.5; 4_096 * 64];
     case.draws = vec![1; 4_096];

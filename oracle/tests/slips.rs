@@ -176,6 +176,36 @@ fn the_listing_in_the_old_way() {
     assert_told_apart!(listing_in_old_way, BatchCase);
 }
 
+#[test]
+fn rows_or_picks_normalized() {
+    assert_told_apart!(rows_normalized, SphericalCase);
+    assert_told_apart!(rows_normalized, SphericalGroupingCase);
+    assert_told_apart!(picks_normalized, SphericalCase);
+    assert_told_apart!(picks_normalized, SphericalGroupingCase);
+}
+
+#[test]
+fn another_root_or_a_division_by_it() {
+    assert_told_apart!(divided_by_root, SphericalCase);
+    assert_told_apart!(root_one_off, SphericalCase);
+    assert_told_apart!(nan_normalized, SphericalCase);
+}
+
+#[test]
+fn refills_or_the_last_iteration_left_out() {
+    assert_told_apart!(refills_left_out, SphericalCase);
+    assert_told_apart!(refills_left_out, SphericalGroupingCase);
+    assert_told_apart!(last_left_out, SphericalCase);
+    assert_told_apart!(last_left_out, SphericalGroupingCase);
+}
+
+#[test]
+fn the_setting_kept_by_grouping_or_taken_to_the_means() {
+    assert_told_apart!(not_passed_on, SphericalGroupingCase);
+    assert_strict_told_apart!(not_passed_on, SphericalGroupingCase);
+    assert_told_apart!(means_normalized, SphericalGroupingCase);
+}
+
 /// Request (i) of document 02: what document 01's rule refused by 7 is parted on a later pass.
 #[test]
 fn a_stubborn_batch_under_both_rules() {
@@ -213,4 +243,9 @@ fn a_slip_changes_only_its_own_place() {
     assert_strict_same!(LabelCase: any_restart_refuses, whole_batch_first, listing_in_old_way);
     assert_strict_same!(KMeansCase: nine_before_seven, whole_batch_first, listing_in_old_way);
     assert_strict_same!(GroupingCase: any_restart_refuses, labels_left, listing_in_old_way);
+    // Request (iv) changes nothing where it is off, and has no place in a file.
+    assert_same!(KMeansCase: rows_normalized, picks_normalized, divided_by_root, root_one_off, nan_normalized, refills_left_out, last_left_out);
+    assert_same!(GroupingCase: rows_normalized, picks_normalized, last_left_out, not_passed_on, means_normalized);
+    assert_same!(BatchCase: rows_normalized, picks_normalized, last_left_out, means_normalized);
+    assert_same!(SphericalCase: not_passed_on, means_normalized);
 }

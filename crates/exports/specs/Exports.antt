@@ -1,6 +1,6 @@
 -- 01, 'What is ported': the functions that the bench host calls, on numbers and little-endian bytes. Lengths are counts of bytes.
 use mathlib.Core.Path.{_≡_}
-use mathlib.Core.Bool.{_&&_}
+use mathlib.Core.Bool.{Bool, not, _&&_}
 use mathlib.Core.List.{List, [], _∷_, _++_, flatMap, flatten}
 use Prim.Native.Nat.{ℕ, _+_, _*_}
 use lib.Dec.{eqb}
@@ -73,9 +73,14 @@ closureWritten count indices = flatMap bytes16 (padded blankCell count indices) 
 abbrev pub LabelsGave : Answer (List Placement) → ℕ → ℕ → List ℕ → ℕ → Type 0
 LabelsGave answer n r cells unplaced = (r ≡ codeOf answer) × ((cells ≡ cellsOf blankCell n labelsOf answer) × (unplaced ≡ figureOf 0 unplacedOf answer))
 
--- k-means' settings by their four numbers
-abbrev pub configOf : ℕ → ℕ → ℕ → ℕ → KMeansConfig
-configOf iterations restarts points block = record { niter = iterations; nredo = restarts; «max_points_per_centroid» = points; «decode_block_size» = block }
+-- a setting as a number: 0 is off, and every other number is on (02 (iv))
+abbrev pub onBy : ℕ → Bool
+onBy number = not (eqb number 0)
+
+-- k-means' settings by their five numbers
+abbrev pub configOf : ℕ → ℕ → ℕ → ℕ → ℕ → KMeansConfig
+configOf iterations restarts points block spherical =
+    record { niter = iterations; nredo = restarts; spherical = onBy spherical; «max_points_per_centroid» = points; «decode_block_size» = block }
 
 -- k-means' whole result: its number, both result slices, and its figures, which are +0.0, 0 and 0 after a refusal
 abbrev pub KMeansGave : Answer Result → ℕ → ℕ → ℕ → List ℕ → List Float → Float → ℕ → ℕ → Type 0
@@ -86,9 +91,10 @@ KMeansGave answer labelCells centroidCells r labels centroids objective restart 
     × ((objective ≡ figureOf zero32 (λ (a : Result). a .objective) answer)
     × ((restart ≡ figureOf 0 (λ (a : Result). a .restart) answer) × (unplaced ≡ figureOf 0 (λ (a : Result). a .unplaced) answer)))))
 
--- grouping's settings by its mode and its four numbers
-abbrev pub settingsOf : Mode → ℕ → ℕ → Float → ℕ → GroupingConfig
-settingsOf mode limit branching weight budget = record { limit = limit; branching = branching; weight = weight; budget = budget; mode = mode }
+-- grouping's settings by its mode and its five numbers
+abbrev pub settingsOf : Mode → ℕ → ℕ → Float → ℕ → ℕ → GroupingConfig
+settingsOf mode limit branching weight budget spherical =
+    record { limit = limit; branching = branching; weight = weight; budget = budget; spherical = onBy spherical; mode = mode }
 
 -- grouping's whole result: its number, the three result slices, and its counts, 0 after a refusal
 abbrev pub GroupGave : Answer Groups → ℕ → List Row → ℕ → ℕ → ℕ → ℕ → List ℕ → List ℕ → List Float → ℕ → ℕ → ℕ → Type 0

@@ -1,4 +1,5 @@
 // What hosts call: the functions on bytes, and those over typed slices. A slice goes as its pointer and its length; counts are numbers, and
 // each call holds the lengths against them.
 pub mod bytes;
+pub mod root;
 pub mod slices;

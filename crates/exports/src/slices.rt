@@ -13,7 +13,7 @@ ghost use Rattle.labels.specs.Call.{labelCall as Call·labelCall, told as label
 ghost use Rattle.kmeans.specs.Call.{kmeansCall, told as kmeansTold};
 ghost use Rattle.grouping.specs.Answers.{told as groupsTold};
 ghost use Rattle.grouping.specs.Call.{groupingCall};
-ghost use Rattle.exports.specs.Exports.{codeOf, figureOf, LabelsGave, configOf, KMeansGave, settingsOf, GroupGave};
+ghost use Rattle.exports.specs.Exports.{codeOf, figureOf, LabelsGave, onBy, configOf, KMeansGave, settingsOf, GroupGave};
 use grouping::config::GroupingConfig;
 use grouping::waiting::GroupingAnswer;
 use kmeans::call::KMeansAnswer;
@@ -214,16 +214,40 @@ fn put_kept(answer: KMeansAnswer, objective: &mut f64, restart: &mut u32, unplac
     }
 }
 
+// A setting as a number (02 (iv)).
+fn on_by(number: u32) -> bool
+    ensures { λ r. ⌜ r ≡ onBy number ⌝ }
+{
+    number != 0
+}
+
+// K-means' settings by their numbers.
+fn config_of(
+    iterations: u32,
+    restarts: u32,
+    points: u32,
+    block: u32,
+    spherical: u32,
+) -> KMeansConfig
+    ensures { λ r. ⌜ r ≡ configOf iterations restarts points block spherical ⌝ }
+{
+    let on = on_by(spherical);
+    KMeansConfig {
+        niter: iterations,
+        nredo: restarts,
+        spherical: on,
+        max_points_per_centroid: points,
+        decode_block_size: block,
+    }
+}
+
 // K-means in either way.
 fn kmeans_in(
     mode: Mode,
     rows: u32,
     dim: u32,
     k: u32,
-    iterations: u32,
-    restarts: u32,
-    points: u32,
-    block: u32,
+    config: KMeansConfig,
     draws: &[u32],
     values: &[f32],
     labels: &mut [u16],
@@ -234,18 +258,11 @@ fn kmeans_in(
     training: &mut [f32],
 ) -> u32
     ensures { λ r. ⌜ (let lent = length (now (labels .entry)) ∷ length (now (centroids .entry)) ∷ length (now (training .entry)) ∷ [] in
-        let config = configOf iterations restarts points block in
         KMeansGave (kmeansCall mode rows dim k config (now (draws .entry)) (now (values .entry)) lent) (length (now (labels .entry)))
         (length (now (centroids .entry))) r (now (labels .exit)) (now (centroids .exit)) (now (objective .exit)) (now (restart .exit))
         (now (unplaced .exit))) ⌝ }
     ensures { λ _. ⌜ Cleared zero32 (now (training .exit)) ⌝ }
 {
-    let config = KMeansConfig {
-        niter: iterations,
-        nredo: restarts,
-        max_points_per_centroid: points,
-        decode_block_size: block,
-    };
     let answer = kmeans::call::run_kmeans_with_config(
         mode,
         rows,
@@ -272,6 +289,7 @@ pub extern "C" fn families_kmeans(
     restarts: u32,
     points: u32,
     block: u32,
+    spherical: u32,
     draws: &[u32],
     values: &[f32],
     labels: &mut [u16],
@@ -282,21 +300,19 @@ pub extern "C" fn families_kmeans(
     training: &mut [f32],
 ) -> u32
     ensures { λ r. ⌜ (let lent = length (now (labels .entry)) ∷ length (now (centroids .entry)) ∷ length (now (training .entry)) ∷ [] in
-        let config = configOf iterations restarts points block in
+        let config = configOf iterations restarts points block spherical in
         KMeansGave (kmeansCall Strict rows dim k config (now (draws .entry)) (now (values .entry)) lent) (length (now (labels .entry)))
         (length (now (centroids .entry))) r (now (labels .exit)) (now (centroids .exit)) (now (objective .exit)) (now (restart .exit))
         (now (unplaced .exit))) ⌝ }
     ensures { λ _. ⌜ Cleared zero32 (now (training .exit)) ⌝ }
 {
+    let config = config_of(iterations, restarts, points, block, spherical);
     kmeans_in(
         Mode::Strict,
         rows,
         dim,
         k,
-        iterations,
-        restarts,
-        points,
-        block,
+        config,
         draws,
         values,
         labels,
@@ -318,6 +334,7 @@ pub extern "C" fn families_kmeans_old_way(
     restarts: u32,
     points: u32,
     block: u32,
+    spherical: u32,
     draws: &[u32],
     values: &[f32],
     labels: &mut [u16],
@@ -328,21 +345,19 @@ pub extern "C" fn families_kmeans_old_way(
     training: &mut [f32],
 ) -> u32
     ensures { λ r. ⌜ (let lent = length (now (labels .entry)) ∷ length (now (centroids .entry)) ∷ length (now (training .entry)) ∷ [] in
-        let config = configOf iterations restarts points block in
+        let config = configOf iterations restarts points block spherical in
         KMeansGave (kmeansCall OldWay rows dim k config (now (draws .entry)) (now (values .entry)) lent) (length (now (labels .entry)))
         (length (now (centroids .entry))) r (now (labels .exit)) (now (centroids .exit)) (now (objective .exit)) (now (restart .exit))
         (now (unplaced .exit))) ⌝ }
     ensures { λ _. ⌜ Cleared zero32 (now (training .exit)) ⌝ }
 {
+    let config = config_of(iterations, restarts, points, block, spherical);
     kmeans_in(
         Mode::OldWay,
         rows,
         dim,
         k,
-        iterations,
-        restarts,
-        points,
-        block,
+        config,
         draws,
         values,
         labels,
@@ -381,15 +396,33 @@ fn put_counts(answer: GroupingAnswer, groups: &mut u32, splits: &mut u32, unplac
     }
 }
 
-// Grouping in either way.
-fn group_in(
+// Grouping's settings by its mode and its numbers.
+fn settings_of(
     mode: Mode,
-    rows: u32,
-    dim: u32,
     limit: u32,
     branching: u32,
     weight: f32,
     budget: u32,
+    spherical: u32,
+) -> GroupingConfig
+    ensures { λ r. ⌜ r ≡ settingsOf mode limit branching weight budget spherical ⌝ }
+{
+    let on = on_by(spherical);
+    GroupingConfig {
+        limit,
+        branching,
+        weight,
+        budget,
+        spherical: on,
+        mode,
+    }
+}
+
+// Grouping by these settings.
+fn group_by(
+    rows: u32,
+    dim: u32,
+    config: GroupingConfig,
     draws: &[u32],
     values: &[f32],
     order: &mut [u16],
@@ -403,19 +436,12 @@ fn group_in(
 ) -> u32
     ensures { λ r. ⌜ (let lent = length (now (order .entry)) ∷ length (now (ends .entry)) ∷ length (now (means .entry))
         ∷ length (now (gathered .entry)) ∷ length (now (training .entry)) ∷ [] in
-        let answer = groupingCall rows dim (settingsOf mode limit branching weight budget) (now (draws .entry)) (now (values .entry)) lent in
+        let answer = groupingCall rows dim config (now (draws .entry)) (now (values .entry)) lent in
         GroupGave answer dim (rowsFrom dim rows (now (values .entry))) (length (now (order .entry))) (length (now (ends .entry)))
         (length (now (means .entry))) r (now (order .exit)) (now (ends .exit)) (now (means .exit)) (now (groups .exit)) (now (splits .exit))
         (now (unplaced .exit))) ⌝ }
     ensures { λ _. ⌜ Cleared zero32 (now (gathered .exit)) × Cleared zero32 (now (training .exit)) ⌝ }
 {
-    let config = GroupingConfig {
-        limit,
-        branching,
-        weight,
-        budget,
-        mode,
-    };
     let answer = grouping::call::hierarchical_clustering(
         rows,
         dim,
@@ -440,6 +466,7 @@ pub extern "C" fn families_group(
     branching: u32,
     weight: f32,
     budget: u32,
+    spherical: u32,
     draws: &[u32],
     values: &[f32],
     order: &mut [u16],
@@ -453,20 +480,17 @@ pub extern "C" fn families_group(
 ) -> u32
     ensures { λ r. ⌜ (let lent = length (now (order .entry)) ∷ length (now (ends .entry)) ∷ length (now (means .entry))
         ∷ length (now (gathered .entry)) ∷ length (now (training .entry)) ∷ [] in
-        let answer = groupingCall rows dim (settingsOf Strict limit branching weight budget) (now (draws .entry)) (now (values .entry)) lent in
+        let answer = groupingCall rows dim (settingsOf Strict limit branching weight budget spherical) (now (draws .entry)) (now (values .entry)) lent in
         GroupGave answer dim (rowsFrom dim rows (now (values .entry))) (length (now (order .entry))) (length (now (ends .entry)))
         (length (now (means .entry))) r (now (order .exit)) (now (ends .exit)) (now (means .exit)) (now (groups .exit)) (now (splits .exit))
         (now (unplaced .exit))) ⌝ }
     ensures { λ _. ⌜ Cleared zero32 (now (gathered .exit)) × Cleared zero32 (now (training .exit)) ⌝ }
 {
-    group_in(
-        Mode::Strict,
+    let config = settings_of(Mode::Strict, limit, branching, weight, budget, spherical);
+    group_by(
         rows,
         dim,
-        limit,
-        branching,
-        weight,
-        budget,
+        config,
         draws,
         values,
         order,
@@ -489,6 +513,7 @@ pub extern "C" fn families_group_old_way(
     branching: u32,
     weight: f32,
     budget: u32,
+    spherical: u32,
     draws: &[u32],
     values: &[f32],
     order: &mut [u16],
@@ -502,20 +527,17 @@ pub extern "C" fn families_group_old_way(
 ) -> u32
     ensures { λ r. ⌜ (let lent = length (now (order .entry)) ∷ length (now (ends .entry)) ∷ length (now (means .entry))
         ∷ length (now (gathered .entry)) ∷ length (now (training .entry)) ∷ [] in
-        let answer = groupingCall rows dim (settingsOf OldWay limit branching weight budget) (now (draws .entry)) (now (values .entry)) lent in
+        let answer = groupingCall rows dim (settingsOf OldWay limit branching weight budget spherical) (now (draws .entry)) (now (values .entry)) lent in
         GroupGave answer dim (rowsFrom dim rows (now (values .entry))) (length (now (order .entry))) (length (now (ends .entry)))
         (length (now (means .entry))) r (now (order .exit)) (now (ends .exit)) (now (means .exit)) (now (groups .exit)) (now (splits .exit))
         (now (unplaced .exit))) ⌝ }
     ensures { λ _. ⌜ Cleared zero32 (now (gathered .exit)) × Cleared zero32 (now (training .exit)) ⌝ }
 {
-    group_in(
-        Mode::OldWay,
+    let config = settings_of(Mode::OldWay, limit, branching, weight, budget, spherical);
+    group_by(
         rows,
         dim,
-        limit,
-        branching,
-        weight,
-        budget,
+        config,
         draws,
         values,
         order,

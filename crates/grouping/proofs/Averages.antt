@@ -53,8 +53,7 @@ rows-length sums (r ∷ rows) = rows-length (addRow sums r) rows ∙ add-length 
 pub mean-length : (dim : ℕ) (rows : List Row) (group : List ℕ) → length (meanOf dim rows group) ≡ dim
 unfolding meanOf
 mean-length dim rows group =
-    length-map (addRows (zeroRow dim) (rowsAt rows group)) (λ s. div binary32 s (count32 (length group)))
-    ∙ rows-length (zeroRow dim) (rowsAt rows group) ∙ length-replicate dim zero32
+    length-map (addRows (zeroRow dim) (rowsAt rows group)) _ ∙ rows-length (zeroRow dim) (rowsAt rows group) ∙ length-replicate dim zero32
 
 pub rows-more : (rows : List Row) (group : List ℕ) (mean whole : Row) (i : ℕ) → i < length group → addRows mean (rowsAt rows (drop i group)) ≡ whole
     → addRows (addRow mean (getD rows (getD group i 0) [])) (rowsAt rows (drop (i + 1) group)) ≡ whole

@@ -38,7 +38,7 @@ pub data Number : ℕ → Type 0 where
 
 -- the budget alone may be another in range
 abbrev pub withBudget : GroupingConfig → ℕ → GroupingConfig
-withBudget config n = record { limit = config .limit; branching = config .branching; weight = config .weight; budget = n; mode = config .mode }
+withBudget config n = record { limit = config .limit; branching = config .branching; weight = config .weight; budget = n; spherical = config .spherical; mode = config .mode }
 
 ranged-budget : (rows dim : ℕ) (config : GroupingConfig) (n : ℕ) → rangesFit rows dim config ≡ true → n ≤ 8192 → rangesFit rows dim (withBudget config n) ≡ true
 unfolding rangesFit
@@ -48,7 +48,7 @@ ranged-budget rows dim config n e h =
 
 -- the mode alone may be another
 abbrev pub inMode : Mode → GroupingConfig → GroupingConfig
-inMode mode config = record { limit = config .limit; branching = config .branching; weight = config .weight; budget = config .budget; mode = mode }
+inMode mode config = record { limit = config .limit; branching = config .branching; weight = config .weight; budget = config .budget; spherical = config .spherical; mode = mode }
 
 -- One call, with its settings, its draws, its readings one after the other, and the lengths of what is lent.
 module _ (rows dim : ℕ) (config : GroupingConfig) (drawn : List ℕ) (values : List Float) (lent : List ℕ) where
@@ -57,7 +57,7 @@ module _ (rows dim : ℕ) (config : GroupingConfig) (drawn : List ℕ) (values :
 
   -- what its splits go by
   abbrev pub rule : Rule
-  rule = ruleOf drawn dim (rowsFrom dim rows values) (config .branching) (config .weight)
+  rule = ruleOf drawn dim (rowsFrom dim rows values) (config .branching) (config .weight) (config .spherical)
 
   -- every number is in range
   abbrev pub ranges : Bool

@@ -111,8 +111,8 @@ module _ (answer : Answer Groups) (dim : ℕ) (values : List Float) (order ends 
 -- the same result, its rows, parts and cells counted otherwise
 pub gives-counted : (draws : List ℕ) (dim : ℕ) (values : List Float) (config : GroupingConfig) {r : GroupingAnswer} {order ends : List ℕ} {means : List Float} (n k o o′ e e′ m : ℕ)
     → n ≡ o → k ≡ config .branching → o′ ≡ o → e′ ≡ e
-    → Gives (grouping (config .mode) (ruleOf draws dim (rowsFrom dim n values) k (config .weight)) (config .limit) (config .budget)) dim (rowsFrom dim o′ values) o′ e′ m r order ends means
-    → Gives (grouping (config .mode) (ruleOf draws dim (rowsFrom dim o values) (config .branching) (config .weight)) (config .limit) (config .budget)) dim (rowsFrom dim o values) o e m r order ends means
+    → Gives (grouping (config .mode) (ruleOf draws dim (rowsFrom dim n values) k (config .weight) (config .spherical)) (config .limit) (config .budget)) dim (rowsFrom dim o′ values) o′ e′ m r order ends means
+    → Gives (grouping (config .mode) (ruleOf draws dim (rowsFrom dim o values) (config .branching) (config .weight) (config .spherical)) (config .limit) (config .budget)) dim (rowsFrom dim o values) o e m r order ends means
 gives-counted draws dim values config n k o o′ e e′ m a b c d g = rw (a, b, c, d) at g
 
 module _ (rows dim : ℕ) (config : GroupingConfig) (draws : List ℕ) (values : List Float) (lent : List ℕ) where
@@ -134,7 +134,7 @@ module _ (rows dim : ℕ) (config : GroupingConfig) (draws : List ℕ) (values :
 
   pub gives-called : {r : GroupingAnswer} {order ends : List ℕ} {means : List Float} (orderCells endCells meanCells : ℕ)
       → groupingRefusal rows dim config (length draws) (length values) lent ≡ 0 → orderCells ≡ rows
-      → Gives (grouping (config .mode) (ruleOf draws dim (rowsFrom dim orderCells values) (config .branching) (config .weight)) (config .limit) (config .budget)) dim
+      → Gives (grouping (config .mode) (ruleOf draws dim (rowsFrom dim orderCells values) (config .branching) (config .weight) (config .spherical)) (config .limit) (config .budget)) dim
       (rowsFrom dim orderCells values) orderCells endCells meanCells r order ends means
       → Gives called dim (rowsFrom dim rows values) orderCells endCells meanCells r order ends means
   unfolding groupingCall unless

@@ -22,6 +22,7 @@ pub mod ModePromises
 pub mod SplitPromises
 pub mod States
 pub mod Acceptances
+pub mod OffPromises
 pub mod Calls
 pub mod CallPromises
 pub mod CellPromises

@@ -63,7 +63,7 @@ split-plain rule n g e = rw e
 labelled-kept : (rule : Rule) (n : ℕ) (g : List ℕ) → 0 < rule .branching → rule .branching ≤ length g → Same (flat (labelled rule n g)) g
 labelled-kept rule n g some enough =
     let rows : length (rowsAt (rule .rows) g) ≡ length g = length-map g (λ i. getD (rule .rows) i []) in
-    let l = labels-below (rule .draws) n forGrouping (rule .branching) (rule .dim) (rowsAt (rule .rows) g) some (omega (arith, rows)) in
+    let l = labels-below (rule .draws) n (forGrouping (rule .spherical)) (rule .branching) (rule .dim) (rowsAt (rule .rows) g) some (omega (arith, rows)) in
     gathered-same (rule .branching) g (found rule n g .labels) (sym (l .0 ∙ rows)) (l .1)
 
 -- The parts of a split together hold the group's rows: none is lost, doubled or made up; and there are as many parts as branching.

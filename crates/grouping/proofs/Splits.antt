@@ -1,6 +1,6 @@
 -- One split, on lists: k-means, the rows gathered and balanced put together. Assumes nothing.
 use mathlib.Core.Path.{_≡_, sym, ap, _∙_}
-use mathlib.Core.Bool.{true, false}
+use mathlib.Core.Bool.{Bool, true, false}
 use mathlib.Core.List.{List, []}
 use Prim.Native.Nat.{ℕ, _+_, _*_, _≤_, _<_}
 use native.Mathlib.Omega.{arith}
@@ -56,15 +56,15 @@ labelled-by rows k group labels inside e b = record {
   whole = gathered-length k group labels e b;
 }
 
-pub labelled : {draws : List ℕ} {k : ℕ} (dim : ℕ) {cursor : Cursor} {kept : Kept} {labels : List ℕ} {centroids : List Row} (rows : ℕ) (table : List Row) (group : List ℕ)
-    → cursor .at < length draws → cursor .pass < 4294967296 → 0 < k → k ≤ length group → Below rows group → Ran draws forGrouping k dim (rowsAt table group) cursor kept labels centroids
+pub labelled : {draws : List ℕ} {k : ℕ} (config : KMeansConfig) (dim : ℕ) {cursor : Cursor} {kept : Kept} {labels : List ℕ} {centroids : List Row} (rows : ℕ) (table : List Row) (group : List ℕ)
+    → cursor .at < length draws → cursor .pass < 4294967296 → 0 < k → k ≤ length group → Below rows group → Ran draws config k dim (rowsAt table group) cursor kept labels centroids
     → Labelled rows k group labels
-labelled {draws} {k} dim {cursor} {kept} {labels} rows table group inside bits some enough below ran =
+labelled {draws} {k} config dim {cursor} {kept} {labels} rows table group inside bits some enough below ran =
     let l = length-map group (λ i. getD table i []) in
     let n = cursor .at + cursor .pass * length draws in
     let e = ap (λ (r : Result). r .labels) (ran .steps n (cursor-own draws cursor inside bits) .0) in
     let found : (length labels ≡ length group) × Below k labels
-    = rw e (rw l at (labels-below draws n forGrouping k dim (rowsAt table group) some (rw l enough))) in
+    = rw e (rw l at (labels-below draws n config k dim (rowsAt table group) some (rw l enough))) in
     labelled-by rows k group labels below (sym (found .0)) (found .1)
 
 -- ---- the split
@@ -74,24 +74,24 @@ pub lost-few : (rule : Rule) (n : ℕ) (group : List ℕ) → lostBy rule n grou
 unfolding lostBy
 lost-few rule n group =
     rw (length-map group (λ i. getD (rule .rows) i [])) at
-    (unplaced-most (rule .draws) n forGrouping (rule .branching) (rule .dim) (rowsAt (rule .rows) group))
+    (unplaced-most (rule .draws) n (forGrouping (rule .spherical)) (rule .branching) (rule .dim) (rowsAt (rule .rows) group))
 
 -- the slices of a split are those of a k-means run
 pub split-space : {dim k rows n labels gathered centroids training : ℕ} (config : KMeansConfig) → Limits dim k rows → n ≤ 4096 → k ≤ n → labels ≡ n → gathered ≡ n * dim → centroids ≡ k * dim → training ≡ n * dim
-    → config ≡ forGrouping
+    → (spherical : Bool) → config ≡ forGrouping spherical
     → (Limits dim k labels × ((k ≤ labels) × ((config .«max_points_per_centroid» ≤ 4096) × (0 < config .«decode_block_size»))))
     × ((gathered ≡ labels * dim) × ((centroids ≡ k * dim) × (training ≡ labels * dim)))
-split-space config l few enough e g c t f = rw (e, f) (((l .0, (l .1 .0, few)), (enough, (omega arith, omega arith))), (g, (c, t)))
+split-space config l few enough e g c t spherical f = rw (e, f) (((l .0, (l .1 .0, few)), (enough, (omega arith, omega arith))), (g, (c, t)))
 
-pub split-done : {draws : List ℕ} {k : ℕ} (mode : Mode) (dim : ℕ) {group labels : List ℕ} {cursor : Cursor} {kept : Kept} {centroids : List Row} (table : List Row) (weight : Float) {part sizes : List ℕ} (number : ℕ)
+pub split-done : {draws : List ℕ} {k : ℕ} (mode : Mode) (dim : ℕ) {group labels : List ℕ} {cursor : Cursor} {kept : Kept} {centroids : List Row} (table : List Row) (weight : Float) (spherical : Bool) {part sizes : List ℕ} (number : ℕ)
     → cursor .at < length draws → cursor .pass < 4294967296 → length group ≤ 4096
-    → Ran draws forGrouping k dim (rowsAt table group) cursor kept labels centroids
+    → Ran draws (forGrouping spherical) k dim (rowsAt table group) cursor kept labels centroids
     → number ≡ unplacedRefusal mode (kept .unplaced)
     → (number ≡ 0 → Laid (balanceIf table centroids (share (length group) k) weight (gathered k group labels)) part sizes)
-    → Split mode (ruleOf draws dim table k weight) group cursor (record { number = number; cursor = kept .cursor; unplaced = kept .unplaced }) part sizes
+    → Split mode (ruleOf draws dim table k weight spherical) group cursor (record { number = number; cursor = kept .cursor; unplaced = kept .unplaced }) part sizes
 unfolding partsOf madeBy lostBy
-split-done {draws} {k} mode dim {group} {cursor = cursor} {kept = kept} table weight number inside bits few ran refused b =
-    let rule = ruleOf draws dim table k weight in
+split-done {draws} {k} mode dim {group} {cursor = cursor} {kept = kept} table weight spherical number inside bits few ran refused b =
+    let rule = ruleOf draws dim table k weight spherical in
     let n = cursor .at + cursor .pass * length draws in
     let lost : kept .unplaced ≡ lostBy rule n group = ap (λ (r : Result). r .unplaced) (ran .steps n (cursor-own draws cursor inside bits) .0) in
     record {

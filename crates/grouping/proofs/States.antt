@@ -433,9 +433,9 @@ first (x ∷ l) waiting room =
       full = (omega arith, tt);
     }
 
-module _ (mode : Mode) (draws : List ℕ) (dim : ℕ) (values : Row) (k : ℕ) (weight : Float) (limit budget : ℕ) (order : List ℕ) (up : order ≡ upTo (length order)) where
+module _ (mode : Mode) (draws : List ℕ) (dim : ℕ) (values : Row) (k : ℕ) (weight : Float) (spherical : Bool) (limit budget : ℕ) (order : List ℕ) (up : order ≡ upTo (length order)) where
   abbrev ruled : Rule
-  ruled = ruleOf draws dim (rowsFrom dim (length order) values) k weight
+  ruled = ruleOf draws dim (rowsFrom dim (length order) values) k weight spherical
 
   whole-is : groupFrom mode (partsOf ruled) (madeBy ruled) (lostBy ruled) limit k budget 0 (waits order []) ≡ grouping mode ruled limit budget
   whole-is = ap (λ (l : List ℕ). groupFrom mode (partsOf ruled) (madeBy ruled) (lostBy ruled) limit k budget 0 (waits l [])) (up ∙ ap upTo (sym (rows-length dim (length order) values)))

@@ -30,7 +30,7 @@ groupingRefusal rows dim config draws values lent = lowest (rangesFit rows dim c
 unfoldable pub groupingCall : ℕ → ℕ → GroupingConfig → List ℕ → List Float → List ℕ → Answer Groups
 groupingCall rows dim config draws values lent =
     unless (groupingRefusal rows dim config (length draws) (length values) lent)
-    (grouping (config .mode) (ruleOf draws dim (rowsFrom dim rows values) (config .branching) (config .weight)) (config .limit) (config .budget))
+    (grouping (config .mode) (ruleOf draws dim (rowsFrom dim rows values) (config .branching) (config .weight) (config .spherical)) (config .limit) (config .budget))
 
 -- a call's whole result: the answer, the row order, the group ends and the means
 pub record Gives (answer : Answer Groups) (dim : ℕ) (rows : List Row) (orderCells endCells meanCells : ℕ) (r : GroupingAnswer) (order ends : List ℕ) (means : List Float) : Type 0 where

@@ -1,5 +1,5 @@
 -- 01, 'Grouping': groups are lists of row numbers; of the waiting ones the last put to wait stands first.
-use mathlib.Core.Bool.{cond}
+use mathlib.Core.Bool.{Bool, cond}
 use mathlib.Core.List.{List, [], _∷_, _++_, map, foldl}
 use Prim.Native.Nat.{ℕ, zero, suc, _+_}
 use lib.Dec.{ltb, leb}
@@ -15,12 +15,12 @@ use Rattle.kmeans.specs.KMeans.{Run, kmeans, forGrouping}
 use Rattle.grouping.specs.Parts.{gathered}
 use Rattle.grouping.specs.Balance.{share, balance}
 
--- what stays the same in all splits of a call: the draws, the readings, branching and weight
+-- what stays the same in all splits of a call: the draws, the readings, branching, weight, and whether k-means brings centroids to length one (02 (iv))
 abbrev pub Rule : Type 0
-Rule = record { draws : List ℕ; dim : ℕ; rows : List Row; branching : ℕ; weight : Float }
+Rule = record { draws : List ℕ; dim : ℕ; rows : List Row; branching : ℕ; weight : Float; spherical : Bool }
 
-abbrev pub ruleOf : List ℕ → ℕ → List Row → ℕ → Float → Rule
-ruleOf draws dim rows branching weight = record { draws = draws; dim = dim; rows = rows; branching = branching; weight = weight }
+abbrev pub ruleOf : List ℕ → ℕ → List Row → ℕ → Float → Bool → Rule
+ruleOf draws dim rows branching weight spherical = record { draws = draws; dim = dim; rows = rows; branching = branching; weight = weight; spherical = spherical }
 
 -- balancing if the weight is above zero, which a NaN is not
 unfoldable pub balanceIf : List Row → List Row → ℕ → Float → List (List ℕ) → List (List ℕ)
@@ -28,7 +28,7 @@ balanceIf rows centroids share weight parts = cond (lt zero32 weight) (balance r
 
 -- the k-means of one split after n draws: over the group's rows in listed order
 abbrev pub splitRun : Rule → ℕ → List ℕ → Run
-splitRun rule n group = kmeans (rule .draws) n forGrouping (rule .branching) (rule .dim) (rowsAt (rule .rows) group)
+splitRun rule n group = kmeans (rule .draws) n (forGrouping (rule .spherical)) (rule .branching) (rule .dim) (rowsAt (rule .rows) group)
 
 -- the split: k-means, the rows gathered per label, and balancing
 unfoldable pub partsOf : Rule → ℕ → List ℕ → List (List ℕ)

@@ -124,7 +124,7 @@ fn answer(
         × ((0 < length (now draws)) × (config .budget < 65536))) ⌝ }
     requires { ⌜ (now ends ≡ replicate (length (now ends)) 65535) × (now means ≡ replicate (length (now means)) zero32) ⌝ }
     ensures { λ r. ⌜ (let rows = rowsFrom dim (length (now (order .entry))) (now (values .entry)) in
-        let rule = ruleOf (now (draws .entry)) dim rows (config .branching) (config .weight) in
+        let rule = ruleOf (now (draws .entry)) dim rows (config .branching) (config .weight) (config .spherical) in
         Gives (grouping (config .mode) rule (config .limit) (config .budget)) dim rows
         (length (now (order .entry))) (length (now (ends .entry))) (length (now (means .entry)))
         r (now (order .exit)) (now (ends .exit)) (now (means .exit))) ⌝ }

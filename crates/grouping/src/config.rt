@@ -10,6 +10,8 @@ pub struct GroupingConfig {
     pub weight: f32,
     // at most so many splits
     pub budget: u32,
+    // whether k-means brings centroids to length one, so that shape groups and not scale (02 (iv))
+    pub spherical: bool,
     // whether unplaced rows refuse a split (02 (iii))
     pub mode: Mode,
 }

@@ -65,7 +65,8 @@ pub fn split_cluster(
     requires { ⌜ Room dim (length (now sizes)) rows (length (now values)) (length (now gathered)) (length (now training)) ⌝ }
     requires { ⌜ (length (now sizes) ≤ length (now part)) × ((length (now part) ≤ rows)
         × (Below rows (now part) × (cursor .at < length (now draws)))) ⌝ }
-    ensures { λ r. ⌜ (let rule = ruleOf (now (draws .entry)) dim (rowsFrom dim rows (now (values .entry))) (length (now (sizes .entry))) (config .weight) in
+    ensures { λ r. ⌜ (let rule = ruleOf (now (draws .entry)) dim (rowsFrom dim rows (now (values .entry))) (length (now (sizes .entry))) (config .weight)
+        (config .spherical) in
         Split (config .mode) rule (now (part .entry)) cursor r (now (part .exit)) (now (sizes .exit))) ⌝ }
 {
     let n = part.len();
@@ -77,7 +78,7 @@ pub fn split_cluster(
     let mut copied = rooms::cell_room();
     training::gather_rows(values, dim, rows, part, &mut gathered[..cells]);
     let kept = restart::run_kmeans_flat(
-        KMeansConfig::for_grouping(),
+        KMeansConfig::for_grouping(config.spherical),
         k,
         dim,
         draws,

@@ -78,7 +78,8 @@ fn split_or_refuse(
 ) -> Divided
     requires { ⌜ Room dim (length (now sizes)) rows (length (now values)) (length (now gathered)) (length (now training)) ⌝ }
     requires { ⌜ (length (now part) ≤ rows) × (Below rows (now part) × (cursor .at < length (now draws))) ⌝ }
-    ensures { λ r. ⌜ (let rule = ruleOf (now (draws .entry)) dim (rowsFrom dim rows (now (values .entry))) (length (now (sizes .entry))) (config .weight) in
+    ensures { λ r. ⌜ (let rule = ruleOf (now (draws .entry)) dim (rowsFrom dim rows (now (values .entry))) (length (now (sizes .entry))) (config .weight)
+        (config .spherical) in
         Taken (config .mode) rule (config .budget) splits (now (part .entry)) cursor r (now (part .exit)) (now (sizes .exit))) ⌝ }
 {
     if part.len() < sizes.len() {
@@ -127,7 +128,7 @@ pub fn group_rows(
     requires { ⌜ (now order ≡ upTo (length (now order))) × ((now ends ≡ replicate (length (now ends)) 65535)
         × ((0 < length (now draws)) × (config .budget < 65536))) ⌝ }
     ensures { λ r. ⌜ (let rows = rowsFrom dim (length (now (order .entry))) (now (values .entry)) in
-        let rule = ruleOf (now (draws .entry)) dim rows (length (now (sizes .entry))) (config .weight) in
+        let rule = ruleOf (now (draws .entry)) dim rows (length (now (sizes .entry))) (config .weight) (config .spherical) in
         Grouped (grouping (config .mode) rule (config .limit) (config .budget)) (length (now (order .entry))) r (now (order .exit)) (now (ends .exit))) ⌝ }
 {
     let rows = order.len();

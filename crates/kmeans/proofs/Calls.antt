@@ -31,6 +31,7 @@ pub record Ranged (rows dim k : ℕ) (config : KMeansConfig) : Type 0 where
   pub small-dim : dim ≤ 64
   pub some : 0 < k
   pub few : k ≤ 64
+  pub some-iterations : 0 < config .niter
   pub few-points : config .«max_points_per_centroid» ≤ 4096
   pub some-block : 0 < config .«decode_block_size»
 
@@ -49,6 +50,7 @@ ranged rows dim k config e =
       small-dim = within-is 1 64 dim (a .1) .1;
       some = within-is 1 64 k (b .1) .0;
       few = within-is 1 64 k (b .1) .1;
+      some-iterations = within-is 1 100 (config .niter) (c .1) .0;
       few-points = within-is 0 4096 (config .«max_points_per_centroid») (f .1) .1;
       some-block = within-is 1 32768 (config .«decode_block_size») (g .1) .0;
     }

@@ -1,18 +1,21 @@
--- How many centroids and labels there are, step by step, and which labels. Assumes nothing.
-use mathlib.Core.Path.{_≡_, _∙_}
+-- How many centroids and labels there are, step by step, and which; and where they lie with `spherical` on. Assumes nothing.
+use mathlib.Core.Path.{_≡_, refl, _∙_}
 use mathlib.Core.Bool.{Bool, true, false, cond}
-use mathlib.Core.List.{List}
+use mathlib.Core.List.{List, map}
 use Prim.Native.Nat.{ℕ, zero, suc, _-_, _≤_, _<_}
+use native.Mathlib.Omega.{arith}
 use lib.Dec.{eqb}
 use lib.Ieee.{lt}
 use lib.ListN.{length, length-map}
 use Rattle.sums.specs.Rows.{Row, rowsAt}
 use Rattle.sums.specs.Cells.{Below}
 use Rattle.sums.specs.Draws.{pick}
+use Rattle.sphere.specs.Unit.{unitRow, sphered}
+use Rattle.labels.specs.Label.{nearests}
 use Rattle.labels.proofs.Promises.{label-count, label-below, count-most}
 use Rattle.kmeans.specs.declared.config.KMeansConfig.{KMeansConfig}
 use Rattle.kmeans.specs.declared.config.Plan.{Plan}
-use Rattle.kmeans.specs.Steps.{target, trainingIf}
+use Rattle.kmeans.specs.Steps.{Fit, target, trainingIf, update, iterate}
 use Rattle.kmeans.specs.KMeans.{Result, Run, planOf, firstFit, resultOf, keepBetter, fitOf, restartsFrom, restartsOf, kmeans}
 use Rattle.sums.proofs.Picks.{pick-length}
 use Rattle.kmeans.proofs.Sizes.{iterate-length}
@@ -36,27 +39,32 @@ clustered k rows number centroids e = record {
   below = λ h. rw e at (label-below centroids rows (rw e h));
 }
 
-kept : (k : ℕ) (rows : List Row) (new old : Result) → Clustered k rows new → Clustered k rows old → Clustered k rows (keepBetter new old)
-unfolding keepBetter
-kept k rows new old p q = go (lt (new .objective) (old .objective))
-  where
-    go : (t : Bool) → Clustered k rows (cond t new old)
-    go true = p
-    go false = q
+-- ---- what holds of every restart's result holds of the one kept
+module _ (draws : List ℕ) (plan : Plan) (training rows : List Row) (P : Result → Type 0) (each : (number n : ℕ) → P (resultOf rows number (fitOf draws plan training n .centroids))) where
+  kept-each : (new old : Result) → P new → P old → P (keepBetter new old)
+  unfolding keepBetter
+  kept-each new old p q = go (lt (new .objective) (old .objective))
+    where
+      go : (t : Bool) → P (cond t new old)
+      go true = p
+      go false = q
+
+  from-each : (left number : ℕ) (run : Run) → P (run .result) → P (restartsFrom draws plan training rows left number run .result)
+  unfolding restartsFrom
+  from-each zero number run c = c
+  from-each (suc left) number run c = from-each left (suc number) _ (kept-each _ _ (each number (run .made)) c)
+
+  of-each : (others n : ℕ) → P (restartsOf draws plan training rows others n .result)
+  unfolding restartsOf
+  of-each others n = from-each others 1 _ (each 0 n)
 
 module _ (draws : List ℕ) (plan : Plan) (training rows : List Row) (h : plan .k ≤ length training) where
   fit-length : (n : ℕ) → length (fitOf draws plan training n .centroids) ≡ plan .k
   unfolding fitOf
-  fit-length n = iterate-length draws (plan .k) (plan .dim) _ training (plan .iterations) _ (first-length draws (plan .k) training n h)
-
-  from-clustered : (left number : ℕ) (run : Run) → Clustered (plan .k) rows (run .result) → Clustered (plan .k) rows (restartsFrom draws plan training rows left number run .result)
-  unfolding restartsFrom
-  from-clustered zero number run c = c
-  from-clustered (suc left) number run c = from-clustered left (suc number) _ (kept (plan .k) rows _ _ (clustered (plan .k) rows number _ (fit-length (run .made))) c)
+  fit-length n = iterate-length draws (plan .k) (plan .dim) _ training (plan .spherical) (plan .iterations) _ (first-length draws (plan .k) training n h)
 
   of-clustered : (others n : ℕ) → Clustered (plan .k) rows (restartsOf draws plan training rows others n .result)
-  unfolding restartsOf
-  of-clustered others n = from-clustered others 1 _ (clustered (plan .k) rows 0 _ (fit-length n))
+  of-clustered others n = of-each draws plan training rows (Clustered (plan .k) rows) (λ number m. clustered (plan .k) rows number _ (fit-length m)) others n
 
 pub kmeans-clustered : (draws : List ℕ) (n : ℕ) (config : KMeansConfig) (k dim : ℕ) (rows : List Row) → k ≤ length rows → Clustered k rows (kmeans draws n config k dim rows .result)
 unfolding kmeans
@@ -68,24 +76,35 @@ kmeans-clustered draws n config k dim rows h =
     of-clustered draws (planOf config k dim) (rowsAt rows numbers) rows (rw long (target-enough k (config .«max_points_per_centroid») (length rows))) (config .nredo - 1) _
 
 -- ---- no result has more unplaced rows than there are rows
-few-kept : (m : ℕ) (new old : Result) → new .unplaced ≤ m → old .unplaced ≤ m → keepBetter new old .unplaced ≤ m
-unfolding keepBetter
-few-kept m new old p q = go (lt (new .objective) (old .objective))
-  where
-    go : (t : Bool) → cond t new old .unplaced ≤ m
-    go true = p
-    go false = q
-
 few-result : (rows : List Row) (number : ℕ) (centroids : List Row) → resultOf rows number centroids .unplaced ≤ length rows
 unfolding resultOf
 few-result rows number centroids = count-most centroids rows
 
-few-from : (draws : List ℕ) (plan : Plan) (training rows : List Row) (left number : ℕ) (run : Run) → run .result .unplaced ≤ length rows
-    → restartsFrom draws plan training rows left number run .result .unplaced ≤ length rows
-unfolding restartsFrom
-few-from draws plan training rows zero number run h = h
-few-from draws plan training rows (suc left) number run h = few-from draws plan training rows left (suc number) _ (few-kept (length rows) _ _ (few-result rows number _) h)
-
 pub kmeans-few : (draws : List ℕ) (n : ℕ) (config : KMeansConfig) (k dim : ℕ) (rows : List Row) → kmeans draws n config k dim rows .result .unplaced ≤ length rows
-unfolding kmeans restartsOf
-kmeans-few draws n config k dim rows = few-from draws _ _ rows (config .nredo - 1) 1 _ (few-result rows 0 _)
+unfolding kmeans
+kmeans-few draws n config k dim rows = of-each draws (planOf config k dim) _ rows (λ (r : Result). r .unplaced ≤ length rows) (λ number m. few-result rows number _) (config .nredo - 1) _
+
+-- ---- with the setting on every centroid is one that was brought to length one
+abbrev pub Sphered : List Row → Type 0
+Sphered centroids = (updated : List Row) × (centroids ≡ map unitRow updated)
+
+iterate-sphered : (draws : List ℕ) (k dim block : ℕ) (training : List Row) (left : ℕ) (fit : Fit) → Sphered (iterate true draws k dim block training (suc left) fit .centroids)
+unfolding iterate sphered
+iterate-sphered draws k dim block training zero fit = (update draws k dim block training (fit .made) (nearests (fit .centroids) training) .centroids, refl)
+iterate-sphered draws k dim block training (suc left) fit = iterate-sphered draws k dim block training left _
+
+fit-sphered : (draws : List ℕ) (plan : Plan) (training : List Row) (n : ℕ) → plan .spherical ≡ true → 0 < plan .iterations → Sphered (fitOf draws plan training n .centroids)
+unfolding fitOf
+fit-sphered draws plan training n on some =
+    let e : plan .iterations ≡ suc (plan .iterations - 1) = omega arith in
+    rw (on, e) (iterate-sphered draws (plan .k) (plan .dim) (plan .block) training (plan .iterations - 1) (firstFit draws (plan .k) training n))
+
+result-sphered : (rows : List Row) (number : ℕ) (centroids : List Row) → Sphered centroids → Sphered (resultOf rows number centroids .centroids)
+unfolding resultOf
+result-sphered rows number centroids s = s
+
+pub kmeans-sphered : (draws : List ℕ) (n : ℕ) (config : KMeansConfig) (k dim : ℕ) (rows : List Row) → config .spherical ≡ true → 0 < config .niter
+    → Sphered (kmeans draws n config k dim rows .result .centroids)
+unfolding kmeans
+kmeans-sphered draws n config k dim rows on some =
+    of-each draws (planOf config k dim) _ rows (λ (r : Result). Sphered (r .centroids)) (λ number m. result-sphered rows number _ (fit-sphered draws (planOf config k dim) _ m on some)) (config .nredo - 1) _

@@ -10,4 +10,5 @@ pub mod Alikes
 pub mod Restarts
 pub mod Calls
 pub mod Clusters
+pub mod Before
 pub mod Promises

@@ -24,8 +24,8 @@ use Rattle.kmeans.specs.declared.call.KMeansAnswer.{KMeansAnswer}
 use Rattle.kmeans.specs.declared.call.KMeansAnswer.the-variants.{Accepted, Refused}
 use Rattle.kmeans.specs.KMeans.{Result, kmeans}
 use Rattle.kmeans.specs.Call.{rangesFit, lengthsFit, kmeansRefusal, kmeansCall, told, Gives}
-use Rattle.kmeans.proofs.Calls.{fitting}
-use Rattle.kmeans.proofs.Clusters.{kmeans-clustered, kmeans-few}
+use Rattle.kmeans.proofs.Calls.{ranged, fitting}
+use Rattle.kmeans.proofs.Clusters.{kmeans-clustered, kmeans-few, Sphered, kmeans-sphered}
 
 -- ---- every row has a label, and where there is a cluster every label is a cluster's number
 pub labels-below : (draws : List ℕ) (n : ℕ) (config : KMeansConfig) (k dim : ℕ) (rows : List Row) → 0 < k → k ≤ length rows
@@ -168,6 +168,10 @@ module _ (rows dim k : ℕ) (config : KMeansConfig) (draws : List ℕ) (values :
   pub refused-otherwise : (mode : Mode) (number : ℕ) → call mode ≡ refused number → ((0 < number) × (number ≤ 4)) ⊎ (number ≡ 9)
   unfolding kmeansCall kmeansRefusal
   refused-otherwise mode number c = ⊎-elim inl (λ e. inr (allowed-otherwise mode (answer .unplaced) answer number e)) (refused-by tests (inner mode) number c)
+
+  -- With `spherical` on each centroid of an accepted call is `unitRow` of one that the last update gave (02 (iv)).
+  pub on-sphere : config .spherical ≡ true → Passed → Sphered (answer .centroids)
+  on-sphere on p = kmeans-sphered draws 0 config k dim (rowsFrom dim rows values) on (ranged rows dim k config (p .0) .some-iterations)
 
   -- The old way is the call of before 02 (iii).
   pub old-before : call OldWay ≡ unless (kmeansRefusal rows dim k config (length draws) (length values) lent) (accepted answer)

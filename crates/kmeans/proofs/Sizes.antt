@@ -1,11 +1,13 @@
 -- An update gives as many centroids as there are clusters, and so do all iterations. Assumes nothing.
 use mathlib.Core.Path.{_≡_, refl, sym, ap, _∙_}
+use mathlib.Core.Bool.{Bool}
 use mathlib.Core.List.{List, [], _∷_}
 use Prim.Native.Nat.{ℕ, zero, suc}
 use native.Mathlib.Nat.{suc-inj, suc-ne-zero}
 use lib.ListN.{length, replicate, length-set, length-replicate}
 use Rattle.sums.specs.Rows.{Row}
 use Rattle.sums.specs.Sums.{zeroRow}
+use Rattle.sphere.proofs.Units.{sphered-length}
 use Rattle.labels.specs.declared.nearest.Placement.{Placement}
 use Rattle.labels.specs.Label.{nearests}
 use Rattle.kmeans.specs.Steps.{Fit, countsFrom, sumsFrom, updateFrom, update, iterate}
@@ -37,7 +39,7 @@ module _ (draws : List ℕ) (k dim block : ℕ) (training : List Row) where
       let s = sums-length (replicate k (zeroRow dim)) _ training ∙ length-replicate k (zeroRow dim) in
       from-length draws training n _ _ _ (s ∙ sym c) ∙ c
 
-  pub iterate-length : (left : ℕ) (fit : Fit) → length (fit .centroids) ≡ k → length (iterate draws k dim block training left fit .centroids) ≡ k
+  pub iterate-length : (spherical : Bool) (left : ℕ) (fit : Fit) → length (fit .centroids) ≡ k → length (iterate spherical draws k dim block training left fit .centroids) ≡ k
   unfolding iterate
-  iterate-length zero fit h = h
-  iterate-length (suc left) fit h = iterate-length left _ (update-length (fit .made) (nearests (fit .centroids) training))
+  iterate-length spherical zero fit h = h
+  iterate-length spherical (suc left) fit h = iterate-length spherical left _ (sphered-length spherical _ ∙ update-length (fit .made) (nearests (fit .centroids) training))

@@ -15,6 +15,7 @@ use Rattle.sums.specs.declared.draws.Cursor.{Cursor}
 use Rattle.sums.specs.Rows.{Row}
 use Rattle.sums.specs.Draws.{cursorAt, Drawn}
 use Rattle.sums.specs.Cells.{Below}
+use Rattle.sphere.specs.Unit.{sphered}
 use Rattle.labels.specs.Label.{nearests}
 use Rattle.labels.specs.Pool.{pool}
 use Rattle.sums.specs.Sums.{zeroRow}
@@ -23,7 +24,7 @@ use Rattle.labels.specs.declared.nearest.Tally.{Tally}
 use Rattle.labels.specs.Inside.{Assigned}
 use Rattle.kmeans.specs.declared.config.Plan.{Plan}
 use Rattle.kmeans.specs.declared.lloyd.Iterated.{Iterated}
-use Rattle.kmeans.specs.Steps.{Fit, refit, update, iterate, updateFrom, drawsAfter, countsFrom, sumsFrom, timesInverse}
+use Rattle.kmeans.specs.Steps.{Fit, refit, update, onSphere, iterate, updateFrom, drawsAfter, countsFrom, sumsFrom, timesInverse}
 use Rattle.kmeans.specs.Inside.{Iteration, Fitted, repeats}
 use Rattle.kmeans.proofs.Summing.{Summed}
 use Rattle.kmeans.proofs.Updates.{Updated}
@@ -110,12 +111,18 @@ settles-undrawn n [] old (zero ∷ counts) h = absurd (false≢true h)
 settles-undrawn n (p ∷ new) [] (zero ∷ counts) h = absurd (false≢true h)
 settles-undrawn n (p ∷ new) (q ∷ old) (zero ∷ counts) h = settles-undrawn n new old counts (both (eqb p q) (repeats counts new old) h .1)
 
-module _ (draws : List ℕ) (k dim block : ℕ) (training : List Row) where
+module _ (spherical : Bool) (draws : List ℕ) (k dim block : ℕ) (training : List Row) where
   -- an iteration that changes nothing: nor do all the iterations left
-  pub fixed : (left : ℕ) (fit : Fit) → update draws k dim block training (fit .made) (nearests (fit .centroids) training) ≡ fit → iterate draws k dim block training left fit ≡ fit
+  pub fixed : (left : ℕ) (fit : Fit) → onSphere spherical (update draws k dim block training (fit .made) (nearests (fit .centroids) training)) ≡ fit
+      → iterate spherical draws k dim block training left fit ≡ fit
   unfolding iterate
   fixed zero fit e = refl
   fixed (suc left) fit e = rw e (fixed left fit e)
+
+-- what an update gave, brought to length one where the setting is on: the draws made are the same
+pub handed : {draws : List ℕ} {cursor r : Cursor} {updated rows : List Row} {centroids : ℕ → List Row} {made : ℕ → ℕ} (spherical : Bool) → Drawn draws cursor r updated centroids made
+    → rows ≡ sphered spherical updated → Drawn draws cursor r rows (λ n. sphered spherical (centroids n)) made
+handed spherical d e = record { inside = d .inside; steps = λ n p. let w = d .steps n p in (e ∙ ap (sphered spherical) (w .0), w .1) }
 
 -- ---- one iteration: it stops, or it goes on to the update
 
@@ -161,13 +168,13 @@ module _ (draws : List ℕ) (plan : Plan) (training centroids : List Row) (label
       stays = λ e. (refl, refl);
     }
 
-    pub iteration-goes : (centroids' : List Row) (r : Cursor) → Updated draws training (take used at) counts totals (before .cursor) r centroids'
-        → Iteration draws plan training centroids centroids' labels₀ labels at₀ at before (record { settled = false; cursor = r; held = used }) again
-    iteration-goes centroids' r u = record {
+    pub iteration-goes : (updated centroids' : List Row) (r : Cursor) → Updated draws training (take used at) counts totals (before .cursor) r updated
+        → centroids' ≡ sphered (plan .spherical) updated → Iteration draws plan training centroids centroids' labels₀ labels at₀ at before (record { settled = false; cursor = r; held = used }) again
+    iteration-goes updated centroids' r u h = record {
       labelled = a .labelled;
       held-fits = p .0 .0;
       leads = serves;
-      goes = λ e. rw (s .0, s .1) at u;
+      goes = λ e. handed (plan .spherical) (rw (s .0, s .1) at u) h;
       stops = λ e. absurd (false≢true e);
       stays = λ e. absurd (false≢true e);
     }
@@ -186,15 +193,15 @@ pub record Lengths (centroids₀ : List Float) (labels₀ : List ℕ) (distances
 module _ (draws : List ℕ) (plan : Plan) (training : List Row) where
   -- the iterations left, and one more, from where the fit stands
   abbrev leading : ℕ → Fit → Fit
-  leading left fit = iterate draws (plan .k) (plan .dim) (plan .block) training left fit
+  leading left fit = iterate (plan .spherical) draws (plan .k) (plan .dim) (plan .block) training left fit
 
   abbrev next : ℕ → List Row → Fit
-  next n centroids = update draws (plan .k) (plan .dim) (plan .block) training n (nearests centroids training)
+  next n centroids = onSphere (plan .spherical) (update draws (plan .k) (plan .dim) (plan .block) training n (nearests centroids training))
 
-  -- the centroids are what an update with these labels and positions gave
+  -- the centroids are what an iteration with these labels and positions gave
   pub record Prior (centroids : List Row) (labels at : List ℕ) (held : ℕ) : Type 0 where
     pub after : ℕ
-    pub gave : centroids ≡ refit draws (plan .k) (plan .dim) training after (take held at) labels .centroids
+    pub gave : centroids ≡ sphered (plan .spherical) (refit draws (plan .k) (plan .dim) training after (take held at) labels .centroids)
 
   module _ (centroids₀ : List Row) (c₀ : Cursor) where
     -- i of the iterations are done: those left lead to where all of them lead
@@ -273,8 +280,8 @@ module _ (draws : List ℕ) (plan : Plan) (training : List Row) where
               let counts : List ℕ = countsFrom (replicate (plan .k) 0) labels' in
               let g = settles draws training (old .made) (q .after) new (take (state .held) at) counts (sumsFrom (replicate (plan .k) (zeroRow (plan .dim))) labels' training) (s .1 .1) in
               let f : next (old .made) centroids ≡ record { centroids = centroids; made = old .made }
-              = t .leads (old .made) ∙ same-fit _ _ _ (g ∙ sym (rw (← s .1 .0) at (q .gave))) (settles-undrawn (old .made) new (take (state .held) at) counts (s .1 .1)) in
-              let x = sym (fixed draws (plan .k) (plan .dim) (plan .block) training (plan .iterations - i) (record { centroids = centroids; made = old .made }) f) ∙ old .done in
+              = ap (onSphere (plan .spherical)) (t .leads (old .made)) ∙ same-fit _ _ _ (ap (sphered (plan .spherical)) g ∙ sym (rw (← s .1 .0) at (q .gave))) (settles-undrawn (old .made) new (take (state .held) at) counts (s .1 .1)) in
+              let x = sym (fixed (plan .spherical) draws (plan .k) (plan .dim) (plan .block) training (plan .iterations - i) (record { centroids = centroids; made = old .made }) f) ∙ old .done in
               (t .stays e .0 ∙ ap (λ (y : Fit). y .centroids) x, t .stays e .1 ∙ (old .place ∙ ap (λ (y : Fit). cursorAt draws (y .made)) x));
         }
 

@@ -18,7 +18,7 @@ use Rattle.kmeans.specs.declared.config.Plan.{Plan}
 use Rattle.kmeans.specs.declared.lloyd.Iterated.{Iterated}
 use Rattle.kmeans.specs.declared.restart.Kept.{Kept}
 use Rattle.kmeans.specs.declared.restart.Scored.{Scored}
-use Rattle.kmeans.specs.Steps.{Fit, countsFrom, sumsFrom, refit, update, iterate, objectiveFrom}
+use Rattle.kmeans.specs.Steps.{Fit, countsFrom, sumsFrom, refit, update, onSphere, iterate, objectiveFrom}
 use Rattle.kmeans.specs.KMeans.{Result, fitOf}
 
 -- the values of a row, the clusters and the rows are within 01's ranges
@@ -75,7 +75,7 @@ pub record Iteration (draws : List ℕ) (plan : Plan) (training centroids₀ cen
   pub held-fits : r .held ≤ length at
   pub leads : (n : ℕ) → update draws (plan .k) (plan .dim) (plan .block) training n (nearests centroids₀ training)
       ≡ refit draws (plan .k) (plan .dim) training n (take (r .held) at) labels
-  pub goes : r .settled ≡ false → let after : ℕ → Fit = λ n. refit draws (plan .k) (plan .dim) training n (take (r .held) at) labels in
+  pub goes : r .settled ≡ false → let after : ℕ → Fit = λ n. onSphere (plan .spherical) (refit draws (plan .k) (plan .dim) training n (take (r .held) at) labels) in
       Drawn draws (before .cursor) (r .cursor) centroids (λ n. after n .centroids) (λ n. after n .made)
   pub stops : r .settled ≡ true → (again ≡ true) × ((labels ≡ labels₀) × (repeats (countsFrom (replicate (plan .k) 0) labels) (take (r .held) at) (take (before .held) at₀) ≡ true))
   pub stays : r .settled ≡ true → (centroids ≡ centroids₀) × (r .cursor ≡ before .cursor)
@@ -83,7 +83,7 @@ pub record Iteration (draws : List ℕ) (plan : Plan) (training centroids₀ cen
 -- all the iterations asked for were made (01, 'K-means' step 3), from these centroids and this cursor: what both are then
 abbrev pub Fitted : List ℕ → Plan → List Row → List Row → Cursor → List Row → Cursor → Type 0
 Fitted draws plan training centroids₀ cursor centroids r =
-    let after : ℕ → Fit = λ n. iterate draws (plan .k) (plan .dim) (plan .block) training (plan .iterations) (record { centroids = centroids₀; made = n }) in
+    let after : ℕ → Fit = λ n. iterate (plan .spherical) draws (plan .k) (plan .dim) (plan .block) training (plan .iterations) (record { centroids = centroids₀; made = n }) in
     Drawn draws cursor r centroids (λ n. after n .centroids) (λ n. after n .made)
 
 -- one row, its norm and its sum, positions to fill empty clusters from, and room for k clusters

@@ -1,5 +1,5 @@
 -- 01, 'K-means', steps 2 and 5 and all five together, over the rows as a list. Draws are counted from the start of the call.
-use mathlib.Core.Bool.{cond}
+use mathlib.Core.Bool.{Bool, false, cond}
 use mathlib.Core.List.{List}
 use Prim.Native.Nat.{ℕ, zero, suc, _+_, _-_}
 use lib.Dec.{eqb}
@@ -13,12 +13,12 @@ use Rattle.kmeans.specs.Steps.{target, trainingIf, Fit, iterate, objecti
 use Rattle.kmeans.specs.declared.config.KMeansConfig.{KMeansConfig}
 use Rattle.kmeans.specs.declared.config.Plan.{Plan}
 
--- the source's defaults, and grouping's (01, 'Ranges and refusal numbers')
+-- the source's defaults, and grouping's, which passes on whether centroids are brought to length one (01, 'Ranges and refusal numbers'; 02 (iv))
 abbrev pub usual : KMeansConfig
-usual = record { niter = 25; nredo = 1; «max_points_per_centroid» = 256; «decode_block_size» = 32768 }
+usual = record { niter = 25; nredo = 1; spherical = false; «max_points_per_centroid» = 256; «decode_block_size» = 32768 }
 
-abbrev pub forGrouping : KMeansConfig
-forGrouping = record { niter = 100; nredo = 1; «max_points_per_centroid» = 256; «decode_block_size» = 32768 }
+abbrev pub forGrouping : Bool → KMeansConfig
+forGrouping spherical = record { niter = 100; nredo = 1; spherical = spherical; «max_points_per_centroid» = 256; «decode_block_size» = 32768 }
 
 -- ---- step 2: one restart
 
@@ -32,11 +32,11 @@ firstFit draws k training n = record { centroids = rowsAt training (pick draws n
 
 -- what the steps know of the settings
 abbrev pub planOf : KMeansConfig → ℕ → ℕ → Plan
-planOf config k dim = record { dim = dim; k = k; iterations = config .niter; block = config .«decode_block_size» }
+planOf config k dim = record { dim = dim; k = k; iterations = config .niter; block = config .«decode_block_size»; spherical = config .spherical }
 
 -- one restart after n draws: first centroids, and all the iterations
 unfoldable pub fitOf : List ℕ → Plan → List Row → ℕ → Fit
-fitOf draws plan training n = iterate draws (plan .k) (plan .dim) (plan .block) training (plan .iterations) (firstFit draws (plan .k) training n)
+fitOf draws plan training n = iterate (plan .spherical) draws (plan .k) (plan .dim) (plan .block) training (plan .iterations) (firstFit draws (plan .k) training n)
 
 -- all rows labelled by the centroids of the restart given, and the objective
 unfoldable pub resultOf : List Row → ℕ → List Row → Result

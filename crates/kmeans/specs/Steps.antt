@@ -9,6 +9,7 @@ use Rattle.sums.specs.Rows.{Row}
 use Rattle.sums.specs.Sums.{one32, count32, spreadOf, addRow, zeroRow}
 use Rattle.sums.specs.Ordering.{ascending}
 use Rattle.sums.specs.Draws.{drawn, pick}
+use Rattle.sphere.specs.Unit.{sphered}
 use Rattle.labels.specs.declared.nearest.Placement.{Placement}
 use Rattle.labels.specs.Label.{nearests, labelsOf, distancesOf}
 use Rattle.labels.specs.Pool.{pool}
@@ -71,11 +72,15 @@ refit draws k dim training n far labels =
 unfoldable pub update : List ℕ → ℕ → ℕ → ℕ → List Row → ℕ → List Placement → Fit
 update draws k dim block training n found = refit draws k dim training n (pool block (distancesOf found)) (labelsOf found)
 
+-- what an iteration hands on: every centroid of its update, refilled ones too, brought to length one where the setting is on (02 (iv))
+abbrev pub onSphere : Bool → Fit → Fit
+onSphere spherical fit = record { centroids = sphered spherical (fit .centroids); made = fit .made }
+
 -- the iterations left; none is left out
-unfoldable pub iterate : List ℕ → ℕ → ℕ → ℕ → List Row → ℕ → Fit → Fit
-iterate draws k dim block training zero fit = fit
-iterate draws k dim block training (suc left) fit =
-    iterate draws k dim block training left (update draws k dim block training (fit .made) (nearests (fit .centroids) training))
+unfoldable pub iterate : Bool → List ℕ → ℕ → ℕ → ℕ → List Row → ℕ → Fit → Fit
+iterate spherical draws k dim block training zero fit = fit
+iterate spherical draws k dim block training (suc left) fit =
+    iterate spherical draws k dim block training left (onSphere spherical (update draws k dim block training (fit .made) (nearests (fit .centroids) training)))
 
 -- ---- step 4: the objective
 

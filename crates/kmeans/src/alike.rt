@@ -19,6 +19,7 @@ use crate::lloyd;
 use crate::update;
 use labels::nearest;
 use labels::pool;
+use sphere::unit;
 use sums::bits;
 use sums::cells;
 use sums::draws::Cursor;
@@ -150,6 +151,7 @@ fn run_alike_iterations(
             counts,
             totals,
         );
+        unit::apply_spherical(plan.spherical, centroids, plan.k, plan.dim);
         place = next;
         i += 1;
     }

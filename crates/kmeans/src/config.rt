@@ -5,6 +5,8 @@ ghost use Rattle.kmeans.specs.KMeans.{usual, forGrouping};
 pub struct KMeansConfig {
     pub niter: u32,
     pub nredo: u32,
+    // centroids are brought to length one after each iteration (02 (iv))
+    pub spherical: bool,
     pub max_points_per_centroid: u32,
     pub decode_block_size: u32,
 }
@@ -27,25 +29,29 @@ impl KMeansConfig {
         KMeansConfig {
             niter: KMeansConfig::ITERATIONS,
             nredo: KMeansConfig::RESTARTS,
+            spherical: false,
             max_points_per_centroid: KMeansConfig::MAX_POINTS_PER_CENTROID,
             decode_block_size: KMeansConfig::DECODE_BLOCK_SIZE,
         }
     }
 
-    // What grouping splits with: more iterations, the rest as usual.
-    pub fn for_grouping() -> Self
-        ensures { λ r. ⌜ r ≡ forGrouping ⌝ }
+    // What grouping splits with: more iterations, `spherical` as its caller asked, the rest as usual.
+    pub fn for_grouping(spherical: bool) -> Self
+        ensures { λ r. ⌜ r ≡ forGrouping spherical ⌝ }
     {
         let mut config = KMeansConfig::new();
         config.niter = KMeansConfig::GROUPING_ITERATIONS;
+        config.spherical = spherical;
         config
     }
 }
 
-// What every step of a run knows: the values of a row, the clusters, the iterations to be made, and the rows of a block.
+// What every step of a run knows: the values of a row, the clusters, the iterations to be made, the rows of a block, and
+// whether centroids are brought to length one.
 pub struct Plan {
     pub dim: usize,
     pub k: usize,
     pub iterations: usize,
     pub block: usize,
+    pub spherical: bool,
 }

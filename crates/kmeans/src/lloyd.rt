@@ -1,7 +1,6 @@
 // Lloyd's iterations (the source's run_lloyd_iterations and the counting half of assign_points_for_update).
 ghost use mathlib.Core.Path.{_≡_};
 ghost use mathlib.Core.Bool.{true, false, _&&_};
-ghost use mathlib.Core.List.{[], _∷_};
 ghost use Prim.Native.Nat.{ℕ, _*_, _≤_, _<_};
 ghost use lib.ListN.{length, take, replicate, getD};
 ghost use Rattle.sums.specs.Rows.{rowsFrom};
@@ -14,6 +13,7 @@ use crate::config::Plan;
 use crate::update;
 use labels::nearest;
 use labels::pool;
+use sphere::unit;
 use sums::cells;
 use sums::draws::Cursor;
 use sums::math;
@@ -172,6 +172,7 @@ fn run_iteration(
         draws,
         cursor,
     );
+    unit::apply_spherical(plan.spherical, centroids, k, dim);
     Iterated {
         settled: false,
         cursor: next,

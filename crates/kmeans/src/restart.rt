@@ -235,6 +235,7 @@ pub fn run_kmeans_flat(
         k,
         iterations: numbers::index(config.niter),
         block: numbers::index(config.decode_block_size),
+        spherical: config.spherical,
     };
     let mut norms = rooms::row_room();
     let next = training::choose_training(

@@ -83,8 +83,8 @@ room v n h = length-take-le (n / 4) (replicate 80 v) (omega arith)
 pub kmeans-read : (head drawBytes valueBytes : List ℕ) (d v n m : ℕ) (rows dim k iterations restarts points block training : ℕ) (draws : List ℕ) (values : List Float) (number restart unplaced : ℕ) (objective : Float) (l : List ℕ) (c : List Float)
     → rows ≡ u32At head 24 → dim ≡ u32At head 28 → k ≡ u32At head 32 → iterations ≡ u32At head 36 → restarts ≡ u32At head 40 → points ≡ u32At head 44 → block ≡ u32At head 48
     → draws ≡ wordsFrom d drawBytes → values ≡ floatsFrom v valueBytes → training ≡ v
-    → KMeansGave (kmeansCall Strict rows dim k (configOf iterations restarts points block) draws values (n ∷ m ∷ training ∷ [])) n m number l c objective restart unplaced
-    → KMeansGave (kmeansCall Strict (u32At head 24) (u32At head 28) (u32At head 32) (configOf (u32At head 36) (u32At head 40) (u32At head 44) (u32At head 48)) (wordsFrom d drawBytes) (floatsFrom v valueBytes) (n ∷ m ∷ v ∷ [])) n m number l c objective restart unplaced
+    → KMeansGave (kmeansCall Strict rows dim k (configOf iterations restarts points block 0) draws values (n ∷ m ∷ training ∷ [])) n m number l c objective restart unplaced
+    → KMeansGave (kmeansCall Strict (u32At head 24) (u32At head 28) (u32At head 32) (configOf (u32At head 36) (u32At head 40) (u32At head 44) (u32At head 48) 0) (wordsFrom d drawBytes) (floatsFrom v valueBytes) (n ∷ m ∷ v ∷ [])) n m number l c objective restart unplaced
 kmeans-read head drawBytes valueBytes d v n m rows dim k iterations restarts points block training draws values number restart unplaced objective l c e1 e2 e3 e4 e5 e6 e7 e8 e9 f g =
     rw (e1, e2, e3, e4, e5, e6, e7, e8, e9, f) at g
 

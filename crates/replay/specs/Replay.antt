@@ -37,7 +37,7 @@ closureAgrees head vector centroids stored =
 unfoldable pub kmeansAgreesOf : ℕ → ℕ → ℕ → ℕ → List ℕ → List ℕ → List ℕ → List ℕ → List ℕ → Bool
 kmeansAgreesOf d v n m head draws values labels centroids =
     let w : ℕ → ℕ = u32At head in
-    let answer = kmeansCall Strict (w 24) (w 28) (w 32) (configOf (w 36) (w 40) (w 44) (w 48)) (wordsFrom d draws) (floatsFrom v values) (n ∷ m ∷ v ∷ []) in
+    let answer = kmeansCall Strict (w 24) (w 28) (w 32) (configOf (w 36) (w 40) (w 44) (w 48) 0) (wordsFrom d draws) (floatsFrom v values) (n ∷ m ∷ v ∷ []) in
     eqb (codeOf answer) (w 4) && eqb (figureOf 0 (λ (a : Result). a .restart) answer) (w 52)
     && eqb (toBits binary64 (figureOf zero32 (λ (a : Result). a .objective) answer)) (w 56 + 4294967296 * w 60)
     && sameAll (cellsOf blankCell n (λ (a : Result). a .labels) answer) (wordsFrom n labels)

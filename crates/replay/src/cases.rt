@@ -134,6 +134,7 @@ fn kmeans_inside(
         words::u32_at(head, 40),
         words::u32_at(head, 44),
         words::u32_at(head, 48),
+        0,
         d,
         v,
         l,

@@ -8,7 +8,7 @@ use Rattle.batch.specs.Listing.{placesFrom, decimal, rowNumbers, groupLine, lis
 use Rattle.batch.specs.Batch.{answerBy}
 use Rattle.worked.specs.Table.{half, Table}
 use Rattle.worked.proofs.Opened.{opened}
-use Rattle.worked.proofs.Settled.{P1-parts, P1-lost, P2-parts, P2-lost, P2-refused, split-lost, P10-settles}
+use Rattle.worked.proofs.Settled.{P1-parts, P1-lost, P2-parts, P2-lost, P2-refused, split-lost, P10-settles, shape-parts, shape-lost, far-parts, far-lost, unit-settles}
 
 pub table-holds : Table
 unfolding opened splitFrom ofBits numberOf trailerAt fitsFile shapeOf placesFrom decimal rowNumbers groupLine listing answerBy
@@ -33,6 +33,9 @@ table-holds = record {
   P9 = refl;
   P10 = rw P10-settles;
   lost-split = rw split-lost;
+  by-distance = rw (far-parts, far-lost);
+  by-shape = rw (shape-parts, shape-lost);
+  unit = rw unit-settles;
   P11 = λ a b c weight. refl;
   P12 = λ a b c weight. refl;
   P12-two-rows = λ a b weight. refl;

@@ -7,6 +7,8 @@ use Rattle.sums.specs.Sums.{sumFrom, normOf, dotOf, apartOf, spreadOf, addRow}
 use Rattle.sums.specs.Ordering.{place, orderFrom, keep}
 use Rattle.sums.specs.Draws.{drawn, exchange, exchangesFrom, pick}
 use Rattle.sums.specs.Refusals.{sameAll, lowestFrom, unless, onAccepted}
+use Rattle.sphere.specs.Root.{wholeRoot, dropped, scaled, digitsOf, rootUnits, rootOf}
+use Rattle.sphere.specs.Unit.{timesAll, unitIf, unitRow, sphered}
 use Rattle.labels.specs.Label.{scoreFrom, score, better, nearestFrom, search, placement, nearest, nearests, unplacedOf}
 use Rattle.labels.specs.Pool.{farther, blockPool, blockPools, pool}
 use Rattle.labels.specs.Mode.{unplacedRefusal}
@@ -23,9 +25,14 @@ use Rattle.grouping.specs.Call as call
 
 -- all of them but picking
 unfoldable pub unpicked : Unit {0}
-unfolding add sub mul div lt le isNan ofInt toUnsigned flatMap flatten rowsFrom sumFrom normOf dotOf apartOf spreadOf addRow place orderFrom keep sameAll lowestFrom unless onAccepted scoreFrom score better nearestFrom search placement nearest nearests unplacedOf farther blockPool blockPools pool unplacedRefusal labelRefusal labelCall target trainingIf countsFrom sumsFrom timesInverse updateFrom drawsAfter update objectiveFrom firstFit resultOf keepBetter fitOf restartsFrom restartsOf kmeans rangesFit lengthsFit kmeansRefusal kmeansCall nearer reachOf listed closure anyNan unordered closureRefusal answered closureCall having flat allowed seek closestFrom closestOf balanced moves waits pushed after front back groupFrom meanOf call.rangesFit call.lengthsFit call.groupingRefusal call.groupingCall
+unfolding add sub mul div lt le isNan ofInt toUnsigned flatMap flatten rowsFrom sumFrom normOf dotOf apartOf spreadOf addRow place orderFrom keep sameAll lowestFrom unless onAccepted scoreFrom score better nearestFrom search placement nearest nearests unplacedOf farther blockPool blockPools pool unplacedRefusal labelRefusal labelCall target trainingIf countsFrom sumsFrom timesInverse updateFrom drawsAfter update sphered objectiveFrom firstFit resultOf keepBetter fitOf restartsFrom restartsOf kmeans rangesFit lengthsFit kmeansRefusal kmeansCall nearer reachOf listed closure anyNan unordered closureRefusal answered closureCall having flat allowed seek closestFrom closestOf balanced moves waits pushed after front back groupFrom meanOf call.rangesFit call.lengthsFit call.groupingRefusal call.groupingCall
 unpicked = tt
 
 unfoldable pub opened : Unit {0}
 unfolding unpicked drawn exchange exchangesFrom pick
 opened = tt
+
+-- and the root with what stands on it: where the setting is off, nobody looks at its 25 steps
+unfoldable pub rooted : Unit {0}
+unfolding wholeRoot dropped scaled digitsOf rootUnits rootOf timesAll unitIf unitRow
+rooted = tt

@@ -1,5 +1,6 @@
 -- Document 01, 'Bench examples', "Run": ten equal rows, k 10, and any number of iterations. All rows go to cluster 0, so nine clusters are empty in each.
 use mathlib.Core.Path.{_≡_, refl, ap}
+use mathlib.Core.Bool.{false}
 use mathlib.Core.List.{List, [], _∷_, _++_}
 use Prim.Native.Nat.{ℕ, zero, suc, _+_, _%_}
 use native.Mathlib.Nat.{mod-lt, zero-add, suc-add, add-suc}
@@ -9,6 +10,7 @@ use Rattle.sums.specs.Rows.{Row}
 use Rattle.sums.specs.Sums.{one32}
 use Rattle.sums.specs.Draws.{drawn}
 use Rattle.sums.specs.Tables.{upTo}
+use Rattle.sphere.specs.Unit.{sphered}
 use Rattle.labels.specs.declared.nearest.Placement.{Placement}
 use Rattle.labels.specs.Label.{nearests, labelsOf, distancesOf}
 use Rattle.labels.specs.Pool.{pool}
@@ -25,7 +27,7 @@ found = nearests (alike 10) (alike 10)
 -- a run, from the first ten picked on: ten draws pick the centroids
 abbrev ran : ℕ → ℕ → Run
 ran block iterations =
-    kmeans (0 ∷ []) 0 (record { niter = iterations; nredo = 1; «max_points_per_centroid» = 256; «decode_block_size» = block }) 10 1 (alike 10)
+    kmeans (0 ∷ []) 0 (record { niter = iterations; nredo = 1; spherical = false; «max_points_per_centroid» = 256; «decode_block_size» = block }) 10 1 (alike 10)
 
 pub record Refills : Type 0 where
   -- the centroids stay alike, so each iteration finds the same
@@ -48,13 +50,13 @@ one-5 : (n : ℕ) → update (0 ∷ []) 10 1 5 (alike 10) n found ≡ at (alike 
 unfolding opened
 one-5 n = refl
 
-all : (left n : ℕ) → iterate (0 ∷ []) 10 1 32768 (alike 10) left (at (alike 10) n) ≡ at (alike 10) (left + n)
-unfolding iterate
+all : (left n : ℕ) → iterate false (0 ∷ []) 10 1 32768 (alike 10) left (at (alike 10) n) ≡ at (alike 10) (left + n)
+unfolding iterate sphered
 all zero n = rw zero-add
 all (suc left) n = rw (one n, all left (suc n), add-suc, suc-add)
 
-all-5 : (left n : ℕ) → iterate (0 ∷ []) 10 1 5 (alike 10) left (at (alike 10) n) ≡ at (alike 10) n
-unfolding iterate
+all-5 : (left n : ℕ) → iterate false (0 ∷ []) 10 1 5 (alike 10) left (at (alike 10) n) ≡ at (alike 10) n
+unfolding iterate sphered
 all-5 zero n = refl
 all-5 (suc left) n = rw (one-5 n) (all-5 left n)
 

@@ -88,7 +88,7 @@ abbrev far : List Row
 far = (one32 ∷ []) ∷ (fin false 1 (pos 26) ∷ []) ∷ []
 
 abbrev fit : Result
-fit = kmeans (0 ∷ []) 0 (record { niter = 1; nredo = 1; «max_points_per_centroid» = 256; «decode_block_size» = 32768 }) 1 1 far .result
+fit = kmeans (0 ∷ []) 0 (record { niter = 1; nredo = 1; spherical = false; «max_points_per_centroid» = 256; «decode_block_size» = 32768 }) 1 1 far .result
 
 abbrev six : List Row
 six = singles (0 ∷ 9 ∷ 14 ∷ 5 ∷ 0 ∷ 0 ∷ [])

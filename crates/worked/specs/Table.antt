@@ -1,7 +1,7 @@
 -- Document 01, 'Bench examples', P1 to P12: each an equation between what the definitions give and the number that the document gives.
 -- Every side is computed, down to single operations of IEEE 754.
 use mathlib.Core.Path.{_≡_}
-use mathlib.Core.Bool.{true, false}
+use mathlib.Core.Bool.{Bool, true, false}
 use mathlib.Core.List.{List, [], _∷_}
 use Prim.Native.Nat.{ℕ}
 use lib.IntN.{pos, negsuc}
@@ -14,6 +14,7 @@ use Rattle.labels.specs.declared.mode.Mode.the-variants.{Strict, OldWay}
 use Rattle.labels.specs.declared.nearest.Placement.the-variants.{Unplaced}
 use Rattle.labels.specs.Label.{labelsOf}
 use Rattle.labels.specs.Call.{labelCall}
+use Rattle.kmeans.specs.declared.config.KMeansConfig.{KMeansConfig}
 use Rattle.kmeans.specs.KMeans.{usual}
 use Rattle.kmeans.specs.Call.{lengthsOf as KMeans·lengthsOf, kmeansCall}
 use Rattle.closure.specs.Call.{closureCall}
@@ -32,10 +33,18 @@ abbrev pub alike : ℕ → List (List Float)
 alike n = replicate n (one32 ∷ [])
 
 -- a grouping of rows of one reading, in the new way: draws [0], and all slices as long as they are to be
-abbrev batch : List Float → ℕ → ℕ → Float → ℕ → Answer Groups
-batch values limit branching weight budget =
+abbrev batchBy : Bool → List Float → ℕ → ℕ → Float → ℕ → Answer Groups
+batchBy spherical values limit branching weight budget =
     let n = length values in
-    groupingCall n 1 (record { limit = limit; branching = branching; weight = weight; budget = budget; mode = Strict }) (0 ∷ []) values (lengthsOf n 1)
+    groupingCall n 1 (record { limit = limit; branching = branching; weight = weight; budget = budget; spherical = spherical; mode = Strict }) (0 ∷ []) values (lengthsOf n 1)
+
+-- and with `spherical` off
+abbrev batch : List Float → ℕ → ℕ → Float → ℕ → Answer Groups
+batch values limit branching weight budget = batchBy false values limit branching weight budget
+
+-- k-means' usual settings with `spherical` on
+abbrev usualOn : KMeansConfig
+usualOn = record { niter = 25; nredo = 1; spherical = true; «max_points_per_centroid» = 256; «decode_block_size» = 32768 }
 
 -- an accepted grouping in which no split left a row unplaced
 abbrev pub grouped : List (List ℕ) → ℕ → Answer Groups
@@ -77,6 +86,12 @@ pub record Table : Type 0 where
       ≡ accepted (record { labels = 0 ∷ 0 ∷ []; centroids = (half ∷ []) ∷ []; objective = half; restart = 0; unplaced = 0 })
   -- a NaN among three rows that are split: k-means leaves it unplaced (02 (iii))
   pub lost-split : batch (nan ∷ one32 ∷ two32 ∷ []) 2 2 zero32 1 ≡ refused 9
+  -- readings 1, -1, 50 and -2 are split by how far apart they are, or by sign, which is all the shape that a row of one reading has (02 (iv))
+  pub by-distance : batch (one32 ∷ fin true 1 (pos 0) ∷ count32 50 ∷ fin true 1 (pos 1) ∷ []) 3 2 zero32 1 ≡ grouped ((2 ∷ []) ∷ (0 ∷ 1 ∷ 3 ∷ []) ∷ []) 1
+  pub by-shape : batchBy true (one32 ∷ fin true 1 (pos 0) ∷ count32 50 ∷ fin true 1 (pos 1) ∷ []) 3 2 zero32 1 ≡ grouped ((0 ∷ 2 ∷ []) ∷ (1 ∷ 3 ∷ []) ∷ []) 1
+  -- the row 3, 4 by itself: its centroid is 0.6, 0.8 to the last digit of 32 bits, and the objective is from there to the row as it is (02 (iv))
+  pub unit : kmeansCall Strict 1 2 1 usualOn (0 ∷ []) (fin false 3 (pos 0) ∷ fin false 1 (pos 2) ∷ []) (KMeans·lengthsOf 1 2 1)
+      ≡ accepted (record { labels = 0 ∷ []; centroids = (fin false 5033165 (negsuc 22) ∷ fin false 13421773 (negsuc 23) ∷ []) ∷ []; objective = fin false 281474990132429 (negsuc 43); restart = 0; unplaced = 0 })
   -- 01 gives no readings and no weight here: whatever they are. So 6 and 7 come before 9, and a batch within the limit is accepted, NaN or not (02 (iii))
   pub P11 : (a b c weight : Float) → batch (a ∷ b ∷ c ∷ []) 2 4 weight 0 ≡ refused 6
   pub P12 : (a b c weight : Float) → batch (a ∷ b ∷ c ∷ []) 2 2 weight 0 ≡ refused 7

@@ -81,6 +81,7 @@ two_ways!(
         restarts: u32,
         points: u32,
         block: u32,
+        spherical: u32,
         draws: *const u32,
         draw_count: usize,
         values: *const f32,
@@ -107,6 +108,7 @@ two_ways!(
         branching: u32,
         weight: f32,
         budget: u32,
+        spherical: u32,
         draws: *const u32,
         draw_count: usize,
         values: *const f32,
@@ -140,6 +142,8 @@ extern "C" {
         result: *mut u8,
         result_bytes: usize,
     ) -> u32;
+
+    fn families_root(x: f32) -> f32;
 
     fn families_list(file: *const u8, file_bytes: usize, text: *mut u8, text_bytes: usize) -> u32;
 }
@@ -304,9 +308,10 @@ pub fn place_rows(
     }
 }
 
-/// The numbers of a k-means call.
+/// The numbers of a k-means call. `spherical` says whether centroids are normalised after each iteration: a bool, or for comparisons the
+/// number that goes across, of which 0 is off and every other on.
 #[derive(Clone, Copy, Debug)]
-pub struct KMeansNumbers {
+pub struct KMeansNumbers<Spherical = bool> {
     pub rows: u32,
     pub dim: u32,
     pub k: u32,
@@ -314,6 +319,7 @@ pub struct KMeansNumbers {
     pub restarts: u32,
     pub points_per_centroid: u32,
     pub block: u32,
+    pub spherical: Spherical,
 }
 
 /// What k-means tells beside its result slices: 0 or the refusal's number, the objective, the restart kept, and how many rows are
@@ -329,7 +335,7 @@ pub struct KMeansTold {
 /// K-means over typed slices.
 pub fn kmeans(
     mode: Mode,
-    numbers: KMeansNumbers,
+    numbers: KMeansNumbers<impl Into<u32>>,
     draws: &[u32],
     values: &[f32],
     labels: &mut [u16],
@@ -339,6 +345,7 @@ pub fn kmeans(
     let mut objective = f64::NAN;
     let mut restart = u32::MAX;
     let mut unplaced = u32::MAX;
+    let spherical = numbers.spherical.into();
     let exported = match mode {
         Mode::Strict => families_kmeans,
         Mode::OldWay => families_kmeans_old_way,
@@ -352,6 +359,7 @@ pub fn kmeans(
             numbers.restarts,
             numbers.points_per_centroid,
             numbers.block,
+            spherical,
             draws.as_ptr(),
             draws.len(),
             values.as_ptr(),
@@ -375,15 +383,16 @@ pub fn kmeans(
     }
 }
 
-/// The numbers of a grouping call.
+/// The numbers of a grouping call; `spherical` is that of its k-means, and as there.
 #[derive(Clone, Copy, Debug)]
-pub struct GroupNumbers {
+pub struct GroupNumbers<Spherical = bool> {
     pub rows: u32,
     pub dim: u32,
     pub limit: u32,
     pub branching: u32,
     pub weight: f32,
     pub budget: u32,
+    pub spherical: Spherical,
 }
 
 /// What grouping tells beside its result slices: 0 or the refusal's number, how many groups and splits there are, and how many rows
@@ -400,7 +409,7 @@ pub struct GroupTold {
 #[allow(clippy::too_many_arguments)]
 pub fn group(
     mode: Mode,
-    numbers: GroupNumbers,
+    numbers: GroupNumbers<impl Into<u32>>,
     draws: &[u32],
     values: &[f32],
     order: &mut [u16],
@@ -411,6 +420,7 @@ pub fn group(
     let mut groups = u32::MAX;
     let mut splits = u32::MAX;
     let mut unplaced = u32::MAX;
+    let spherical = numbers.spherical.into();
     let exported = match mode {
         Mode::Strict => families_group,
         Mode::OldWay => families_group_old_way,
@@ -423,6 +433,7 @@ pub fn group(
             numbers.branching,
             numbers.weight,
             numbers.budget,
+            spherical,
             draws.as_ptr(),
             draws.len(),
             values.as_ptr(),
@@ -450,7 +461,12 @@ pub fn group(
     }
 }
 
-/// The listing of a batch file, which is grouped in the strict mode: how many bytes it has, and as many of them as there is room for.
+/// The f32 nearest to the root: what normalising takes of a norm, here for comparisons.
+pub fn root(x: f32) -> f32 {
+    stack::with(stack::ROOT, || unsafe { families_root(x) })
+}
+
+/// The listing of a batch file, which is grouped in the strict mode and never spherically: how many bytes it has, and as many of them as there is room for.
 pub fn list(file: &[u8], text: &mut [u8]) -> u32 {
     stack::with(stack::LIST, || unsafe {
         families_list(file.as_ptr(), file.len(), text.as_mut_ptr(), text.len())

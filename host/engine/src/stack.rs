@@ -14,10 +14,11 @@ pub const LABEL_ROWS: usize = 128 << 10;
 pub const PLACE_ROWS: usize = 128 << 10;
 pub const KMEANS: usize = 192 << 10;
 pub const GROUP: usize = 256 << 10;
+pub const ROOT: usize = 128 << 10;
 pub const LIST: usize = 640 << 10;
 
 /// All of them by the names of the functions.
-pub const STATED: [(&str, usize); 12] = [
+pub const STATED: [(&str, usize); 13] = [
     ("families_label", LABEL),
     ("families_label_old_way", LABEL),
     ("families_closure", CLOSURE),
@@ -29,6 +30,7 @@ pub const STATED: [(&str, usize); 12] = [
     ("families_kmeans_old_way", KMEANS),
     ("families_group", GROUP),
     ("families_group_old_way", GROUP),
+    ("families_root", ROOT),
     ("families_list", LIST),
 ];
 

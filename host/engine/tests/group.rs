@@ -23,6 +23,7 @@ fn numbers(rows: usize, limit: u32, branching: u32, weight: f32, budget: u32) ->
         branching,
         weight,
         budget,
+        spherical: false,
     }
 }
 

@@ -133,6 +133,7 @@ fn kmeans_counts_its_labelling_of_all_rows() {
             restarts: 1,
             points_per_centroid: 1,
             block: 32_768,
+            spherical: false,
         };
         let mut labels = vec![STALE_CELL; values.len()];
         let mut centroids = vec![STALE_FLOAT; k as usize];

@@ -93,6 +93,7 @@ fn kmeans() {
             restarts: 2,
             points_per_centroid: 256,
             block: 32_768,
+            spherical: false,
         };
         MODES.map(|mode| {
             let (mut labels, mut centroids) = ([9; 4], [9.0; 2]);
@@ -117,6 +118,7 @@ fn group() {
             branching: 2,
             weight: 0.0,
             budget: 4,
+            spherical: false,
         };
         MODES.map(|mode| {
             let (mut order, mut ends, mut means) = ([9; 4], [9; 4], [9.0; 4]);
@@ -138,6 +140,12 @@ fn group() {
         assert_eq!((order, ends), ([2, 3, 0, 1], [2, 4, 65_535, 65_535]));
         assert_eq!(means, [10.5, 0.5, 0.0, 0.0]);
     }
+}
+
+#[test]
+fn root() {
+    let roots = on_small_thread(|| [2.0, -0.0].map(|x: f32| exported::root(x).to_bits()));
+    assert_eq!(roots, [std::f32::consts::SQRT_2, -0.0].map(f32::to_bits));
 }
 
 #[test]

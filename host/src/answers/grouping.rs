@@ -7,9 +7,10 @@ use super::report::{Family, Grouping};
 use super::settings::Settings;
 use crate::reading::table::Table;
 
-/// The families of a table's rows, or the refusal's number.
+/// The families of a table's rows, by distance or, `spherical`, by shape; or the refusal's number.
 pub fn families(
     mode: Mode,
+    spherical: bool,
     table: &Table,
     settings: Settings,
     draws: Draws,
@@ -22,6 +23,7 @@ pub fn families(
         branching: settings.branching,
         weight: settings.weight,
         budget: settings.budget,
+        spherical,
     };
     let mut order = vec![0; rows];
     let mut ends = vec![0; rows];
@@ -39,9 +41,8 @@ pub fn families(
     if told.number != 0 {
         return Err(told.number);
     }
-    let groups = told.groups as usize;
     Ok(Grouping {
-        families: taken_apart(&order, &ends[..groups], &means, dim),
+        families: taken_apart(&order, &ends[..told.groups as usize], &means, dim),
         splits: told.splits,
         unplaced: told.unplaced,
     })
@@ -79,7 +80,7 @@ mod tests {
             budget,
         };
         let draws = Draws { seed: 1, count: 3 };
-        families(Mode::Strict, &table, settings, draws)
+        families(Mode::Strict, false, &table, settings, draws)
     }
 
     #[test]
@@ -105,10 +106,37 @@ mod tests {
         };
         let draws = Draws { seed: 1, count: 3 };
         let table = table(1, &[2e19; 4]);
-        let grouping = families(Mode::OldWay, &table, settings, draws).unwrap();
+        let grouping = families(Mode::OldWay, false, &table, settings, draws).unwrap();
         // Balancing alone parts them: four rows, then three of them, then two.
         assert_eq!((grouping.splits, grouping.unplaced), (3, 4 + 3 + 2));
-        assert_eq!(families(Mode::Strict, &table, settings, draws), Err(9));
+        let strict = families(Mode::Strict, false, &table, settings, draws);
+        assert_eq!(strict, Err(9));
+    }
+
+    /// Two shapes at three scales: by distance a family has both, by shape each has its own.
+    #[test]
+    fn gain_only_meters_go_by_their_shape() {
+        let table = table(
+            2,
+            &[0.8, 0.6, 0.6, 0.8, 1.6, 1.2, 1.2, 1.6, 3.2, 2.4, 2.4, 3.2],
+        );
+        let settings = Settings {
+            limit: 3,
+            branching: 2,
+            weight: 0.0,
+            budget: 9,
+        };
+        let rows = |spherical: bool| {
+            let draws = Draws { seed: 1, count: 3 };
+            let grouping = families(Mode::Strict, spherical, &table, settings, draws).unwrap();
+            let rows = grouping.families.into_iter().map(|family| family.rows);
+            let mut rows: Vec<Vec<usize>> = rows.collect();
+            rows.iter_mut().for_each(|rows| rows.sort_unstable());
+            rows.sort();
+            rows
+        };
+        assert_eq!(rows(true), [[0, 2, 4], [1, 3, 5]]);
+        assert_ne!(rows(false), rows(true));
     }
 
     #[test]

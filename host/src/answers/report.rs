@@ -22,6 +22,9 @@ pub struct Grouping {
 /// What that sum is called wherever it is shown.
 pub const UNPLACED: &str = "unplaced rows, summed over splits";
 
+/// A setting and what it says of the families, shown only where it is on.
+pub const SPHERICAL: (&str, &str) = ("spherical", "families by shape");
+
 /// Where a meter stands on the bench; both are counted from 1, as trays and their places are.
 #[derive(Clone, Copy, Debug, PartialEq, Eq)]
 pub struct Place {
@@ -40,6 +43,8 @@ pub struct Report {
     pub tray: usize,
     /// Whether unplaced rows were asked for, and not refused.
     pub allow_unplaced: bool,
+    /// Whether the families go by shape.
+    pub spherical: bool,
     pub grouping: Grouping,
     pub warnings: Vec<String>,
 }
@@ -89,6 +94,7 @@ pub mod tests {
             },
             tray: 2,
             allow_unplaced: false,
+            spherical: false,
             grouping: Grouping {
                 families: vec![family(&[2, 0], [0.5, 0.1]), family(&[1], [-0.25, 3.0])],
                 splits: 1,

@@ -131,6 +131,10 @@ pub struct ReportOptions {
     /// Group meters that match no part of a split too, as label 0, and tell how many; else such a batch is refused by 9
     #[arg(long)]
     allow_unplaced: bool,
+
+    /// Families by shape: k-means takes its centroids to length 1 after each iteration, so that meters which differ in scale alone go together
+    #[arg(long)]
+    spherical: bool,
 }
 
 impl ReportOptions {
@@ -145,7 +149,7 @@ impl ReportOptions {
     pub fn report(&self) -> Result<(Report, Vec<String>), Failure> {
         let asked = self.grouping.read()?;
         let (table, settings, draws) = (asked.table, asked.settings, asked.draws);
-        let found = grouping::families(self.mode(), &table, settings, draws);
+        let found = grouping::families(self.mode(), self.spherical, &table, settings, draws);
         let grouping = found.map_err(|number| {
             let why = refusals::of_grouping(number, &table, settings, draws.count);
             // The seed may have been chosen, and another one may not be refused.
@@ -162,6 +166,7 @@ impl ReportOptions {
             draws,
             tray: self.tray as usize,
             allow_unplaced: self.allow_unplaced,
+            spherical: self.spherical,
             grouping,
             warnings: asked.warnings,
         };

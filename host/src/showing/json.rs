@@ -37,6 +37,7 @@ struct Settings {
     draws: usize,
     tray: usize,
     allow_unplaced: bool,
+    spherical: bool,
 }
 
 #[derive(Serialize)]
@@ -107,6 +108,7 @@ fn settings(report: &Report) -> Settings {
         draws: report.draws.count,
         tray: report.tray,
         allow_unplaced: report.allow_unplaced,
+        spherical: report.spherical,
     }
 }
 
@@ -140,7 +142,7 @@ mod tests {
             value["settings"],
             json!({"limit": 2, "branching": 2, "weight": 0.25, "budget": 4,
                    "seed": "18446744073709551615", "draws": 3, "tray": 2,
-                   "allow_unplaced": false})
+                   "allow_unplaced": false, "spherical": false})
         );
         assert_eq!((&value["meters"], &value["splits"]), (&json!(3), &json!(1)));
         assert_eq!(value["unplaced_rows_summed_over_splits"], 0);
@@ -160,6 +162,13 @@ mod tests {
         assert_eq!(value["unplaced_rows_summed_over_splits"], 7);
         assert_eq!(value["settings"]["allow_unplaced"], true);
         assert_eq!(value["meters"], 3);
+    }
+
+    #[test]
+    fn families_by_shape_are_told_by_a_setting() {
+        let mut report = report();
+        report.spherical = true;
+        assert_eq!(value(&report)["settings"]["spherical"], true);
     }
 
     #[test]

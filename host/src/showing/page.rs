@@ -12,7 +12,7 @@ mod text;
 use self::chart::Chart;
 use self::spread::Spreads;
 use self::text::escape;
-use crate::answers::report::{Report, UNPLACED};
+use crate::answers::report::{Report, SPHERICAL, UNPLACED};
 
 /// The whole page.
 pub fn html(report: &Report) -> String {
@@ -53,7 +53,7 @@ fn result(report: &Report) -> String {
 }
 
 fn settings(report: &Report) -> String {
-    facts(&[
+    let mut shown = vec![
         ("limit", report.settings.limit.to_string()),
         ("branching", report.settings.branching.to_string()),
         ("weight", report.settings.weight.to_string()),
@@ -61,7 +61,11 @@ fn settings(report: &Report) -> String {
         ("seed", report.draws.seed.to_string()),
         ("draws", report.draws.count.to_string()),
         ("meters to a tray", report.tray.to_string()),
-    ])
+    ];
+    if report.spherical {
+        shown.push((SPHERICAL.0, SPHERICAL.1.to_string()));
+    }
+    facts(&shown)
 }
 
 fn facts(facts: &[(&str, String)]) -> String {

@@ -2,13 +2,16 @@
 
 use std::fmt::Write;
 
-use crate::answers::report::{Report, UNPLACED};
+use crate::answers::report::{Report, SPHERICAL, UNPLACED};
 
 /// The first line is that of `families list`; each meter stands with its tray and place.
 pub fn families(report: &Report) -> String {
     let grouping = &report.grouping;
     let mut text = summary(grouping.families.len(), report.meters(), grouping.splits);
     let _ = writeln!(text, "{UNPLACED}: {}", grouping.unplaced);
+    if report.spherical {
+        let _ = writeln!(text, "{}: {}", SPHERICAL.0, SPHERICAL.1);
+    }
     for (number, family) in grouping.families.iter().enumerate() {
         let mean: Vec<String> = family.mean.iter().map(f32::to_string).collect();
         let meters: Vec<String> = family.rows.iter().map(|row| meter(report, *row)).collect();
@@ -44,6 +47,19 @@ mod tests {
              family 0, 2 meters\n  mean 0.5 0.1\n  C@2/1 \"A 1\"@1/1\n\
              family 1, 1 meters\n  mean -0.25 3\n  B@1/2\n"
         );
+    }
+
+    #[test]
+    fn families_by_shape_say_so_and_others_say_nothing() {
+        let mut report = report();
+        let plain = families(&report);
+        report.spherical = true;
+        let line = "splits: 0\nspherical: families by shape\nfamily 0, ";
+        assert_eq!(
+            families(&report),
+            plain.replace("splits: 0\nfamily 0, ", line)
+        );
+        assert!(!plain.contains("spherical"));
     }
 
     #[test]

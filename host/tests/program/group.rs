@@ -168,6 +168,44 @@ fn the_flag_alone_changes_nothing() {
     }
 }
 
+/// Two shapes at four scales: by distance some family has both, by shape each has its own, and every format but CSV says so.
+#[test]
+fn gain_only_meters_are_grouped_by_shape() {
+    let folder = Folder::new("group_spherical");
+    let mut csv = String::from("serial,low,high\n");
+    for gain in [0.5, 1.0, 2.0, 4.0] {
+        csv += &format!("L{gain},{},{}\n", 0.8 * gain, 0.6 * gain);
+        csv += &format!("H{gain},{},{}\n", 0.6 * gain, 0.8 * gain);
+    }
+    let words = "--limit 4 --branching 2 --weight 0 --seed 1";
+    let shapes = |text: &str| -> Vec<bool> {
+        let one = |meters: &Vec<String>| meters.iter().all(|name| name[..1] == meters[0][..1]);
+        families(text).iter().map(one).collect()
+    };
+    let plain = group(&folder, &csv, words);
+    assert!(shapes(plain.text()).contains(&false), "{plain:?}");
+    assert!(!plain.text().contains("spherical"));
+    let run = group(&folder, &csv, &format!("{words} --spherical"));
+    assert_eq!(shapes(run.text()), [true, true], "{run:?}");
+    let third = run.text().lines().nth(2);
+    assert_eq!(third, Some("spherical: families by shape"));
+    // Means are those of the meters: 1.875 is the mean of the gains.
+    assert!(run.text().contains("  mean 1.5 1.125\n"), "{run:?}");
+
+    for (more, on) in [("", false), (" --spherical", true)] {
+        let run = group(&folder, &csv, &format!("{words} --format json{more}"));
+        let whole: serde_json::Value = serde_json::from_str(run.text()).unwrap();
+        assert_eq!(whole["settings"]["spherical"], on);
+        let page = format!("page r.csv {words}{more}");
+        let page = folder.run(&page.split(' ').collect::<Vec<_>>());
+        let fact = "<dt>spherical</dt><dd>families by shape</dd>";
+        assert_eq!(page.text().contains(fact), on);
+    }
+    folder
+        .run(&["batch", "r.csv", "--spherical"])
+        .fails(2, &["--spherical"]);
+}
+
 #[test]
 fn means_are_a_file_of_centroids() {
     let folder = Folder::new("group_means");

@@ -46,15 +46,17 @@ fn help_states_the_defaults() {
     }
 }
 
+/// The options that a batch file has no place for.
 #[test]
-fn unplaced_rows_are_allowed_where_families_are_shown() {
-    let folder = Folder::new("help_unplaced");
+fn some_options_are_there_only_where_families_are_shown() {
+    let folder = Folder::new("help_shown");
     for command in COMMANDS {
-        let has = folder
-            .run(&[command, "-h"])
-            .text()
-            .contains("--allow-unplaced");
-        assert_eq!(has, ["group", "page"].contains(&command), "{command}");
+        let run = folder.run(&[command, "-h"]);
+        for option in ["--allow-unplaced", "--spherical"] {
+            let has = run.text().contains(option);
+            let shown = ["group", "page"].contains(&command);
+            assert_eq!(has, shown, "{command} {option}");
+        }
     }
 }
 

@@ -130,6 +130,12 @@ fn any_float(random: &mut Random) -> f32 {
     }
 }
 
+/// Zero half of the time, and else any number: none of them is refused.
+fn any_number(random: &mut Random) -> u32 {
+    let (far, any) = (random.choose(&FAR), random.next_u32());
+    random.choose(&[0, 0, far, any])
+}
+
 /// A draw list of any length, mostly one that is taken.
 fn draws(random: &mut Random) -> Vec<u32> {
     let count = match random.below(24) {

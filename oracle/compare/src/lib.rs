@@ -3,6 +3,7 @@
 pub mod files;
 pub mod hostile;
 pub mod proved;
+pub mod roots;
 pub mod stack;
 pub mod tally;
 pub mod timing;

@@ -4,6 +4,7 @@
 //! number.
 //! `compare files [SEED [COUNT]] [-- PROGRAM..]`: whole batch files through the listing program.
 //! `compare hostile [SEED [COUNT]]`: COUNT calls of each function and COUNT files that nobody means well with, all in this process.
+//! `compare roots`: some millions of floats to the exported root, and to that of the standard library; `compare roots --all` all 2^32.
 //! `compare stack`: measures the stack that each exported function takes; `compare stack --stated` makes the same calls on threads of
 //! the stated stack, and `compare stack --calls FUNCTION BYTES` those of one function in this process, on a thread of so many bytes.
 //!
@@ -17,10 +18,11 @@ use std::process::{exit, ExitCode};
 use compare::files::{self, Program};
 use compare::hostile;
 use compare::proved::Compared;
+use compare::roots;
 use compare::stack;
 use compare::tally::Tally;
 use oracle::cases::{ClosureBytesCase, GroupingCase, KMeansCase, LabelBytesCase, LabelCase};
-use oracle::cases::{PlaceCase, RestartsCase};
+use oracle::cases::{PlaceCase, RestartsCase, SphericalCase, SphericalGroupingCase};
 
 /// The built cases and `count` generated ones of one kind, each added by `add`.
 fn compare<C: Compared>(seed: u64, count: u64, add: fn(&mut Tally, &str, &C)) -> Tally {
@@ -46,6 +48,8 @@ fn calls(seed: u64, times: u64) -> Vec<Tally> {
         compare::<KMeansCase>(seed, 6_000 * times, Tally::add_both),
         compare::<RestartsCase>(seed, 3_000 * times, Tally::add_both),
         compare::<GroupingCase>(seed, 6_000 * times, Tally::add_both),
+        compare::<SphericalCase>(seed, 6_000 * times, Tally::add_both),
+        compare::<SphericalGroupingCase>(seed, 6_000 * times, Tally::add_both),
     ]
 }
 
@@ -57,6 +61,7 @@ fn hostile(seed: u64, count: u64) -> Vec<Tally> {
 
 fn usage() -> ! {
     eprintln!("compare [calls | files | hostile] [SEED [COUNT]] [-- PROGRAM..]");
+    eprintln!("compare roots [--all]");
     eprintln!("compare stack [--stated | --calls FUNCTION BYTES]");
     exit(2)
 }
@@ -73,6 +78,15 @@ fn stack(words: &[OsString]) -> bool {
             let bytes = bytes.parse().unwrap_or_else(|_| usage());
             stack::call(name, bytes).unwrap_or_else(|| usage())
         }
+        _ => usage(),
+    }
+}
+
+/// Whether the run went well.
+fn roots(words: &[OsString]) -> bool {
+    match words {
+        [] => roots::compare_some(),
+        [all] if all == "--all" => roots::compare_all(),
         _ => usage(),
     }
 }
@@ -109,6 +123,7 @@ fn main() -> ExitCode {
     let words: Vec<OsString> = args_os().skip(1).collect();
     let went_well = match words.split_first() {
         Some((first, rest)) if first == "stack" => stack(rest),
+        Some((first, rest)) if first == "roots" => roots(rest),
         _ => compare_all(&words),
     };
     match went_well {

@@ -10,6 +10,10 @@ use crate::tally::{number_kind, Need};
 
 mod grouping;
 mod kmeans;
+mod spherical;
+
+/// A call of k-means or grouping that is accepted with `spherical` on.
+pub const ACCEPTED_ON: &str = "accepted with spherical on";
 
 /// What the proved library answered and left.
 pub struct Proved<Outcome> {

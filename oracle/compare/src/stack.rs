@@ -10,6 +10,7 @@ use oracle::refusal::Mode::{self, OldWay, Strict};
 
 use crate::files;
 use crate::proved::{BothWays, Compared, Proved};
+use crate::roots;
 
 mod heavy;
 
@@ -44,6 +45,7 @@ pub fn call(name: &str, stack: usize) -> Option<bool> {
         "families_kmeans_old_way" => hold_in(OldWay, stack, heavy::kmeans()),
         "families_group" => hold_in(Strict, stack, heavy::grouping()),
         "families_group_old_way" => hold_in(OldWay, stack, heavy::grouping()),
+        "families_root" => roots::hold_on(stack),
         "families_list" => hold(stack, heavy::files(), listed, Case::run),
         _ => return None,
     };

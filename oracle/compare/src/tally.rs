@@ -9,7 +9,7 @@ use oracle::refusal::Mode;
 use crate::proved::{BothWays, Compared, Proved};
 
 /// How many cases that differ are shown whole.
-const SHOWN: u64 = 5;
+pub const SHOWN: u64 = 5;
 
 /// A kind of case and the least number of times that a run has to meet it.
 pub type Need = (&'static str, u64);
@@ -85,7 +85,11 @@ impl Tally {
     }
 
     pub fn meet(&mut self, kind: String) {
-        *self.met.entry(kind).or_default() += 1;
+        self.meet_times(kind, 1);
+    }
+
+    pub fn meet_times(&mut self, kind: String, times: u64) {
+        *self.met.entry(kind).or_default() += times;
     }
 
     pub fn met(&self, kind: &str) -> u64 {

@@ -83,6 +83,11 @@ fn hostile_files_have_every_kind_of_answer() {
     }
 }
 
+#[test]
+fn roots_of_another_word_do_not_pass() {
+    assert!(!compare(&["roots", "--none"]).succeeded);
+}
+
 fn calls_on_stack(name: &str, bytes: &str) -> Run {
     compare(&["stack", "--calls", name, bytes])
 }

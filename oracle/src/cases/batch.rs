@@ -124,6 +124,7 @@ fn wrapping(trailer: &[(usize, u32)]) -> BatchCase {
         branching: 2,
         weight: 0.0,
         budget: 4,
+        spherical: 0,
     };
     let mut cells = trailer_of(0, &numbers, 0, 1);
     for &(cell, value) in trailer {
@@ -143,6 +144,7 @@ fn long_file(length: usize) -> BatchCase {
         branching: 2,
         weight: 0.0,
         budget: 0,
+        spherical: 0,
     };
     let values: Vec<f32> = (0..3 * ROWS.high).map(|i| i as f32).collect();
     let draws = [7, 8];

@@ -103,6 +103,7 @@ pub(super) fn usual_numbers(random: &mut Random) -> GroupingNumbers {
         branching,
         weight,
         budget: budget.min(affordable_splits(rows, dim, branching)),
+        spherical: 0,
     }
 }
 
@@ -147,7 +148,30 @@ impl GroupingCase {
         Self::given(numbers, values, draw_list(random))
     }
 
-    fn given(numbers: GroupingNumbers, values: Vec<f32>, draws: Vec<u32>) -> Self {
+    /// Numbers, lengths and draws of which some are spoilt, and rows of which some are unplaced.
+    pub(super) fn any(random: &mut Random) -> Self {
+        let spoils = Spoils::new(random);
+        let mut numbers = usual_numbers(random);
+        if spoils.once_in(random, 12) {
+            spoil_a_number(random, &mut numbers);
+        }
+        let mut case = Self::of(random, numbers);
+        if spoils.once_in(random, 12) {
+            case.spoil_a_length(random);
+        }
+        if spoils.once_in(random, 16) {
+            case.draws = wrong_draw_list(random);
+        }
+        if random.once_in(6) {
+            case.unplace(random);
+        }
+        if random.once_in(24) {
+            case.make_large(random);
+        }
+        case
+    }
+
+    pub(super) fn given(numbers: GroupingNumbers, values: Vec<f32>, draws: Vec<u32>) -> Self {
         Self {
             numbers,
             work_fits: true,
@@ -189,7 +213,7 @@ impl GroupingCase {
     }
 
     /// Few rows are balanced, and split up to a small limit.
-    fn split_far(&mut self, random: &mut Random) {
+    pub(super) fn split_far(&mut self, random: &mut Random) {
         if (1..=60).contains(&self.numbers.rows) {
             self.numbers.branching = random.between(2, 3);
             self.numbers.size_limit = random.between(self.numbers.branching - 1, 5);
@@ -291,6 +315,7 @@ impl GroupingCase {
             branching,
             weight,
             budget,
+            spherical: 0,
         };
         Self::given(numbers, values.to_vec(), vec![0])
     }
@@ -301,26 +326,7 @@ impl Case for GroupingCase {
     const NAME: &'static str = "grouping";
 
     fn generate(seed: u64, index: u64) -> Self {
-        let random = &mut Random::new(seed, 3, index);
-        let spoils = Spoils::new(random);
-        let mut numbers = usual_numbers(random);
-        if spoils.once_in(random, 12) {
-            spoil_a_number(random, &mut numbers);
-        }
-        let mut case = Self::of(random, numbers);
-        if spoils.once_in(random, 12) {
-            case.spoil_a_length(random);
-        }
-        if spoils.once_in(random, 16) {
-            case.draws = wrong_draw_list(random);
-        }
-        if random.once_in(6) {
-            case.unplace(random);
-        }
-        if random.once_in(24) {
-            case.make_large(random);
-        }
-        case
+        Self::any(&mut Random::new(seed, 3, index))
     }
 
     fn built() -> Vec<Self> {

@@ -87,6 +87,7 @@ fn usual_numbers(random: &mut Random) -> KMeansNumbers {
         restarts,
         points_per_centroid,
         block,
+        spherical: 0,
     }
 }
 
@@ -111,7 +112,24 @@ impl KMeansCase {
         Self::given(numbers, values, draw_list(random))
     }
 
-    fn given(numbers: KMeansNumbers, values: Vec<f32>, draws: Vec<u32>) -> Self {
+    /// Numbers, lengths and draws of which some are spoilt.
+    pub(super) fn any(random: &mut Random) -> Self {
+        let spoils = Spoils::new(random);
+        let mut numbers = usual_numbers(random);
+        if spoils.once_in(random, 8) {
+            spoil_a_number(random, &mut numbers);
+        }
+        let mut case = Self::of(random, numbers);
+        if spoils.once_in(random, 12) {
+            case.spoil_a_length(random);
+        }
+        if spoils.once_in(random, 16) {
+            case.draws = wrong_draw_list(random);
+        }
+        case
+    }
+
+    pub(super) fn given(numbers: KMeansNumbers, values: Vec<f32>, draws: Vec<u32>) -> Self {
         Self {
             numbers,
             values,
@@ -221,6 +239,7 @@ impl KMeansCase {
             restarts: 2,
             points_per_centroid: 4,
             block: 32_768,
+            spherical: 0,
         };
         // Eight draws pick the first eight rows, two a restart's centroids.
         let mut draws = vec![0; 8];
@@ -241,6 +260,7 @@ impl KMeansCase {
             restarts: 1,
             points_per_centroid: 256,
             block,
+            spherical: 0,
         };
         Self::given(numbers, values.to_vec(), vec![0])
     }
@@ -251,20 +271,7 @@ impl Case for KMeansCase {
     const NAME: &'static str = "k-means";
 
     fn generate(seed: u64, index: u64) -> Self {
-        let random = &mut Random::new(seed, 2, index);
-        let spoils = Spoils::new(random);
-        let mut numbers = usual_numbers(random);
-        if spoils.once_in(random, 8) {
-            spoil_a_number(random, &mut numbers);
-        }
-        let mut case = Self::of(random, numbers);
-        if spoils.once_in(random, 12) {
-            case.spoil_a_length(random);
-        }
-        if spoils.once_in(random, 16) {
-            case.draws = wrong_draw_list(random);
-        }
-        case
+        Self::any(&mut Random::new(seed, 2, index))
     }
 
     fn built() -> Vec<Self> {
@@ -355,6 +362,7 @@ impl Case for RestartsCase {
             restarts: random.between(2, 4),
             points_per_centroid: random.choose(&[1, 2, rows, rows, rows]),
             block: random.choose(&[1, 5, BLOCK.high]),
+            spherical: 0,
         };
         let mut case = KMeansCase::of(random, numbers);
         let few = random.between(1, 3);

@@ -174,6 +174,6 @@ pub fn power_of_two(exponent: i32) -> f32 {
     }
 }
 
-fn sign(random: &mut Random) -> f32 {
+pub fn sign(random: &mut Random) -> f32 {
     random.choose(&[1.0, -1.0])
 }

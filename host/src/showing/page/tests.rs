@@ -38,6 +38,7 @@ fn report(rows: &[&[f32]], groups: &[&[usize]]) -> Report {
         },
         tray: 2,
         allow_unplaced: false,
+        spherical: false,
         grouping: Grouping {
             families: families.collect(),
             splits: 6,
@@ -293,6 +294,17 @@ fn head_tells_the_result_and_the_settings() {
         assert!(page.contains(&fact), "{fact}");
     }
     assert_eq!(times(&page, "readings.csv"), 2);
+}
+
+#[test]
+fn head_tells_that_families_go_by_shape_where_they_do() {
+    let mut report = sample();
+    let plain = html(&report);
+    report.spherical = true;
+    let fact = "<div><dt>spherical</dt><dd>families by shape</dd></div>";
+    let page = html(&report);
+    assert_eq!(times(&page, fact), 1);
+    assert_eq!(page.replace(fact, ""), plain);
 }
 
 #[test]

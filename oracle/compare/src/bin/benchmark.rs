@@ -95,6 +95,7 @@ fn kmeans(rounds: usize, dim: usize, k: usize, kind: Rows) {
         restarts: 1,
         points_per_centroid: 4_096,
         block: 32_768,
+        spherical: false,
     };
     let theirs = calls::KMeansNumbers {
         rows: numbers.rows,
@@ -104,6 +105,7 @@ fn kmeans(rounds: usize, dim: usize, k: usize, kind: Rows) {
         restarts: numbers.restarts,
         points_per_centroid: numbers.points_per_centroid,
         block: numbers.block,
+        spherical: 0,
     };
     let mut work = KMeansWork::new(ROWS, dim, 0.0);
     let mut mine = (vec![0u16; ROWS], vec![0.0f32; k * dim]);

@@ -58,6 +58,7 @@ impl Batch {
                 branching,
                 weight: WEIGHT,
                 budget: BUDGET,
+                spherical: 0,
             },
             values,
             draws: (0..256).map(|_| random.next_u32()).collect(),
@@ -81,6 +82,7 @@ impl Batch {
             branching: self.numbers.branching,
             weight: self.numbers.weight,
             budget: self.numbers.budget,
+            spherical: self.numbers.spherical,
         };
         exported::group(
             Mode::OldWay,

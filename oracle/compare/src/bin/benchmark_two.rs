@@ -1,11 +1,11 @@
 //! Speed of two builds of the exported library, side by side in one run on one thread: the old one's median time over the new one's,
-//! and the same of every round. Both are called in the old way; where the new build has a strict one, that is then timed against its own
-//! old way.
+//! and the same of every round. Both are called in the old way and with `spherical` off; where the new build has a strict way, that is then
+//! timed against its own old way, and where it has `spherical`, off against on.
 //!
 //! `benchmark_two OLD.so NEW.so [ROUNDS] [WORD..]`: all, or what has these words in its name. A build becomes such a file by
 //! `cc -shared -o NEW.so -Wl,--whole-archive target/staticlib/libexports.a -Wl,--no-whole-archive`. It may be one of before request
-//! (iii) of document 02, whose plain names are the old way, or of before (ii), whose functions have no place for how many rows are
-//! unplaced.
+//! (iv) of document 02, whose functions have no place for `spherical`, of before (iii), whose plain names are the old way, or of before (ii),
+//! whose functions have no place for how many rows are unplaced.
 
 use std::env::args;
 use std::ffi::{c_char, c_int, c_void, CString};
@@ -22,33 +22,49 @@ extern "C" {
 /// Names are bound at once, and seen by nobody else: both builds have the same names.
 const NOW: c_int = 2;
 
-/// A function by its address, with its place for how many rows are unplaced or without.
+/// A function by its address, with its place for how many rows are unplaced or without, and with what goes at the place for
+/// `spherical`, if it has one.
 #[derive(Clone, Copy)]
 struct Function {
     at: *mut c_void,
     counts: bool,
+    spherical: Option<u32>,
 }
 
-/// Calls a function of docs/HOST.md: the arguments up to the place for the unplaced rows, and those behind it, each with its type.
+/// Calls a function of docs/HOST.md: the arguments up to the place for `spherical`, those from there to the place for the unplaced rows,
+/// and those behind it, each with its type.
 macro_rules! call {
-    ($function:expr, [$($value:expr => $type:ty),*], [$($later:expr => $later_type:ty),*]) => {{
-        type Without = unsafe extern "C" fn($($type,)* $($later_type),*) -> u32;
-        type With = unsafe extern "C" fn($($type,)* *mut u32, $($later_type),*) -> u32;
-        let Function { at, counts } = $function;
+    (
+        $function:expr,
+        [$($number:expr => $number_type:ty),*],
+        [$($value:expr => $type:ty),*],
+        [$($later:expr => $later_type:ty),*]
+    ) => {{
+        type First = unsafe extern "C" fn($($number_type,)* $($type,)* $($later_type),*) -> u32;
+        type Counts = unsafe extern "C" fn($($number_type,)* $($type,)* *mut u32, $($later_type),*) -> u32;
+        type Whole = unsafe extern "C" fn($($number_type,)* u32, $($type,)* *mut u32, $($later_type),*) -> u32;
+        let Function { at, counts, spherical } = $function;
         let mut unplaced = 0;
-        let number = match counts {
-            true => unsafe { transmute::<*mut c_void, With>(at)($($value,)* &mut unplaced, $($later),*) },
-            false => unsafe { transmute::<*mut c_void, Without>(at)($($value,)* $($later),*) },
+        let number = unsafe {
+            match (counts, spherical) {
+                (false, _) => transmute::<*mut c_void, First>(at)($($number,)* $($value,)* $($later),*),
+                (true, None) => transmute::<*mut c_void, Counts>(at)($($number,)* $($value,)* &mut unplaced, $($later),*),
+                (true, Some(on)) => {
+                    transmute::<*mut c_void, Whole>(at)($($number,)* on, $($value,)* &mut unplaced, $($later),*)
+                }
+            }
         };
         assert_eq!(number, 0);
     }};
 }
 
-/// A function in its two ways; a build of before request (iii) has no strict one.
+/// A function in its two ways, of which a build of before request (iii) has no strict one, and its old way with `spherical` on, which one
+/// of before (iv) does not have.
 #[derive(Clone, Copy)]
 struct Ways {
     old: Function,
     strict: Option<Function>,
+    spherical: Option<Function>,
 }
 
 struct Build {
@@ -62,28 +78,35 @@ fn build(path: &str) -> Build {
     let library = unsafe { dlopen(text(path).as_ptr(), NOW) };
     assert!(!library.is_null(), "{path} cannot be opened");
     let find = |name: &str| unsafe { dlsym(library, text(name).as_ptr()) };
-    // The function that came with the counts.
+    // The functions that came with the counts, and with `spherical`.
     let counts = !find("families_place_rows").is_null();
-    let ways = |name: &str| {
-        let plain = find(name);
+    let has_spherical = !find("families_root").is_null();
+    let ways = |name: &str, takes_spherical: bool| {
+        let function = |at: *mut c_void| Function {
+            at,
+            counts,
+            spherical: (takes_spherical && has_spherical).then_some(0),
+        };
+        let [plain, named] = [find(name), find(&format!("{name}_old_way"))];
         assert!(!plain.is_null(), "{path} has no {name}");
-        let plain = Function { at: plain, counts };
-        let named = find(&format!("{name}_old_way"));
-        match named.is_null() {
-            true => Ways {
-                old: plain,
-                strict: None,
-            },
-            false => Ways {
-                old: Function { at: named, counts },
-                strict: Some(plain),
-            },
+        let (old, strict) = match named.is_null() {
+            true => (function(plain), None),
+            false => (function(named), Some(function(plain))),
+        };
+        let spherical = old.spherical.map(|_| Function {
+            spherical: Some(1),
+            ..old
+        });
+        Ways {
+            old,
+            strict,
+            spherical,
         }
     };
     Build {
-        label_rows: ways("families_label_rows"),
-        kmeans: ways("families_kmeans"),
-        group: ways("families_group"),
+        label_rows: ways("families_label_rows", false),
+        kmeans: ways("families_kmeans", true),
+        group: ways("families_group", true),
     }
 }
 
@@ -127,7 +150,9 @@ impl Batch {
             [
                 rows as u32 => u32,
                 dim as u32 => u32,
-                (centroids.len() / dim) as u32 => u32,
+                (centroids.len() / dim) as u32 => u32
+            ],
+            [
                 self.values.as_ptr() => *const f32,
                 self.values.len() => usize,
                 centroids.as_ptr() => *const f32,
@@ -156,7 +181,9 @@ impl Batch {
                 25 => u32,
                 2 => u32,
                 256 => u32,
-                32_768 => u32,
+                32_768 => u32
+            ],
+            [
                 self.draws.as_ptr() => *const u32,
                 self.draws.len() => usize,
                 self.values.as_ptr() => *const f32,
@@ -189,10 +216,11 @@ impl Batch {
             [
                 rows as u32 => u32,
                 dim as u32 => u32,
-                branching.max(40) => u32,
-                branching => u32,
+                branching.max(40) => u32, branching => u32,
                 0.25 => f32,
-                8_192 => u32,
+                8_192 => u32
+            ],
+            [
                 self.draws.as_ptr() => *const u32,
                 self.draws.len() => usize,
                 self.values.as_ptr() => *const f32,
@@ -221,7 +249,7 @@ fn bits(values: &[f32]) -> Vec<u32> {
     values.iter().map(|value| value.to_bits()).collect()
 }
 
-/// The old way of both builds, and then both ways of the new one.
+/// The old way of both builds, then both ways of the new one, and then its old way with `spherical` off and on.
 fn measure<T: PartialEq>(
     rounds: usize,
     name: &str,
@@ -243,6 +271,10 @@ fn measure<T: PartialEq>(
     if let Some(strict) = new.strict {
         let names = ["new in the old way", "new strict"];
         in_turn(rounds, name, names, calling(new.old), calling(strict));
+    }
+    if let Some(spherical) = new.spherical {
+        let names = ["new", "new spherical"];
+        in_turn(rounds, name, names, calling(new.old), calling(spherical));
     }
 }
 

@@ -5,8 +5,8 @@ use oracle::cases::PlaceCase;
 use oracle::cases::{ClosureBytesCase, GroupingCase, KMeansCase, LabelBytesCase, LabelCase};
 use oracle::random::Random;
 
-use super::{any_float, draws, Floats, Mood, ENOUGH};
-use crate::proved::Compared;
+use super::{any_float, any_number, draws, Floats, Mood, ENOUGH};
+use crate::proved::{Compared, ACCEPTED_ON};
 use crate::tally::{Need, Tally};
 
 /// Products that a call may cost as a rule, and once in a while.
@@ -150,6 +150,7 @@ fn kmeans(random: &mut Random) -> KMeansCase {
         restarts: number(calls::RESTARTS, 3),
         points_per_centroid: number(calls::POINTS_PER_CENTROID, 8),
         block: number(calls::BLOCK, 40),
+        spherical: 0,
     };
     let cost = product(&[
         numbers.rows,
@@ -158,14 +159,16 @@ fn kmeans(random: &mut Random) -> KMeansCase {
         numbers.iterations,
         numbers.restarts,
     ]);
-    KMeansCase {
+    let mut case = KMeansCase {
         numbers,
         values: means.floats(random, &[numbers.rows, numbers.dim]),
         draws: draws(random),
         work_fits: means.work_fits(random, cost),
         label_cells: means.length(random, &[numbers.rows]),
         centroid_cells: means.length(random, &[numbers.k, numbers.dim]),
-    }
+    };
+    case.numbers.spherical = any_number(random);
+    case
 }
 
 fn grouping(random: &mut Random) -> GroupingCase {
@@ -179,6 +182,7 @@ fn grouping(random: &mut Random) -> GroupingCase {
         branching: number(calls::K, 5),
         budget: number(calls::SPLIT_BUDGET, 12),
         weight: 0.0,
+        spherical: 0,
     };
     numbers.weight = any_float(random);
     if random.once_in(2) {
@@ -191,7 +195,7 @@ fn grouping(random: &mut Random) -> GroupingCase {
     if numbers.budget <= calls::SPLIT_BUDGET.high {
         numbers.budget = numbers.budget.min(affordable as u32);
     }
-    GroupingCase {
+    let mut case = GroupingCase {
         numbers,
         values: means.floats(random, &[numbers.rows, numbers.dim]),
         draws: draws(random),
@@ -199,7 +203,9 @@ fn grouping(random: &mut Random) -> GroupingCase {
         order_cells: means.length(random, &[numbers.rows]),
         end_cells: means.length(random, &[numbers.rows]),
         mean_cells: means.length(random, &[numbers.rows, numbers.dim]),
-    }
+    };
+    case.numbers.spherical = any_number(random);
+    case
 }
 
 const LABEL_NEEDS: [Need; 5] = [
@@ -215,7 +221,7 @@ const CLOSURE_NEEDS: [Need; 4] = [
     ("refused 2", 50),
     ("refused 5", 10),
 ];
-const KMEANS_NEEDS: [Need; 7] = [
+const KMEANS_NEEDS: [Need; 8] = [
     ("accepted", 50),
     ("refused 1", 50),
     ("refused 2", 50),
@@ -223,8 +229,9 @@ const KMEANS_NEEDS: [Need; 7] = [
     ("refused 4", 10),
     ("strict: accepted", 50),
     ("strict: refused 9", 50),
+    (ACCEPTED_ON, 50),
 ];
-const GROUPING_NEEDS: [Need; 8] = [
+const GROUPING_NEEDS: [Need; 9] = [
     ("accepted", 50),
     ("refused 1", 50),
     ("refused 2", 50),
@@ -233,6 +240,7 @@ const GROUPING_NEEDS: [Need; 8] = [
     ("refused 7", 10),
     ("strict: accepted", 50),
     ("strict: refused 9", 10),
+    (ACCEPTED_ON, 50),
 ];
 
 fn run<C: Compared>(

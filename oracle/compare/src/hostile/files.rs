@@ -45,6 +45,7 @@ fn sound(random: &mut Random) -> Vec<u8> {
         branching: random.small(1, 5),
         weight: any_float(random),
         budget: random.small(0, 12),
+        spherical: 0,
     };
     let count = (numbers.rows * numbers.dim) as usize;
     let values = Floats::new(random).many(random, count);

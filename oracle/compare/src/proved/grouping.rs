@@ -6,6 +6,7 @@ use oracle::cases::{Case, GroupingCase, GroupingOutcome, STALE_CELL, STALE_FLOAT
 use oracle::random::Random;
 use oracle::refusal::Mode;
 
+use super::ACCEPTED_ON;
 use super::{answer, spoil, strict_kinds, wrapped, wrong_kind, BothWays, Compared, Proved};
 use crate::tally::{number_kind, Need};
 use crate::weights;
@@ -135,6 +136,9 @@ impl Compared for GroupingCase {
         if let Ok(accepted) = outcome.answer {
             kinds.extend(accepted_kinds(self, outcome, &accepted));
         }
+        if number == 0 && self.numbers.spherical != 0 {
+            kinds.push(ACCEPTED_ON.into());
+        }
         if number == 2 && !self.work_fits {
             let (which, shorter) = wrong_slice(self);
             kinds.push(wrong_kind(SLICES[which], shorter));
@@ -159,6 +163,7 @@ impl BothWays for GroupingCase {
                 branching: numbers.branching,
                 weight: numbers.weight,
                 budget: numbers.budget,
+                spherical: numbers.spherical,
             },
             &self.draws,
             &self.values,

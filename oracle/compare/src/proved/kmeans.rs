@@ -6,6 +6,7 @@ use oracle::cases::{Case, KMeansCase, KMeansOutcome, RestartsCase, STALE_CELL, S
 use oracle::random::Random;
 use oracle::refusal::Mode;
 
+use super::ACCEPTED_ON;
 use super::{answer, kinds, spoil, strict_kinds, wrapped, wrong_kind, BothWays, Compared, Proved};
 use crate::tally::Need;
 
@@ -57,6 +58,9 @@ impl Compared for KMeansCase {
         let number = Self::number(outcome);
         let shown = |(_, _, unplaced)| [self.pass_kinds(), self.unplaced_kinds(unplaced)].concat();
         let mut kinds = kinds(number, outcome.answer.map_or(vec![], shown));
+        if number == 0 && self.numbers.spherical != 0 {
+            kinds.push(ACCEPTED_ON.into());
+        }
         if number == 2 && !self.work_fits {
             kinds.push(wrong_kind("training", is_shorter(self)));
         }
@@ -80,6 +84,7 @@ impl BothWays for KMeansCase {
                 restarts: numbers.restarts,
                 points_per_centroid: numbers.points_per_centroid,
                 block: numbers.block,
+                spherical: numbers.spherical,
             },
             &self.draws,
             &self.values,

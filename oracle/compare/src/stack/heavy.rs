@@ -62,7 +62,7 @@ fn draws(count: usize) -> Vec<u32> {
     (0..count).map(|_| random.next_u32()).collect()
 }
 
-fn largest_kmeans(alike: bool, points_per_centroid: u32, work_fits: bool) -> KMeansCase {
+fn largest_kmeans(alike: bool, points_per_centroid: u32, spherical: u32) -> KMeansCase {
     KMeansCase {
         numbers: KMeansNumbers {
             rows: 4_096,
@@ -72,26 +72,32 @@ fn largest_kmeans(alike: bool, points_per_centroid: u32, work_fits: bool) -> KMe
             restarts: 2,
             points_per_centroid,
             block: 1_000,
+            spherical,
         },
         values: most_rows(64, alike),
         draws: draws(4_096),
-        work_fits,
+        work_fits: true,
         label_cells: 4_096,
         centroid_cells: 64 * 64,
     }
 }
 
 pub fn kmeans() -> Vec<KMeansCase> {
-    and(vec![
-        largest_kmeans(false, 4_096, true),
-        largest_kmeans(false, 1, true),
-        largest_kmeans(true, 4_096, true),
-        largest_kmeans(false, 4_096, false),
-    ])
+    let mut refused = largest_kmeans(false, 4_096, 0);
+    refused.work_fits = false;
+    let mut cases = vec![refused];
+    for spherical in [0, u32::MAX] {
+        cases.extend([
+            largest_kmeans(false, 4_096, spherical),
+            largest_kmeans(false, 1, spherical),
+            largest_kmeans(true, 4_096, spherical),
+        ]);
+    }
+    and(cases)
 }
 
 /// Two ways to part the most rows: into few parts of many readings, and into many parts.
-fn largest_grouping(dim: u32, branching: u32, alike: bool) -> GroupingCase {
+fn largest_grouping(dim: u32, branching: u32, alike: bool, spherical: u32) -> GroupingCase {
     GroupingCase {
         numbers: GroupingNumbers {
             rows: 4_096,
@@ -100,6 +106,7 @@ fn largest_grouping(dim: u32, branching: u32, alike: bool) -> GroupingCase {
             branching,
             weight: 0.25,
             budget: 8,
+            spherical,
         },
         values: most_rows(dim as usize, alike),
         draws: draws(4_096),
@@ -111,14 +118,17 @@ fn largest_grouping(dim: u32, branching: u32, alike: bool) -> GroupingCase {
 }
 
 pub fn grouping() -> Vec<GroupingCase> {
-    let mut refused = largest_grouping(64, 2, false);
+    let mut refused = largest_grouping(64, 2, false, 0);
     refused.work_fits = false;
-    and(vec![
-        largest_grouping(64, 2, false),
-        largest_grouping(64, 2, true),
-        largest_grouping(4, 64, false),
-        refused,
-    ])
+    let mut cases = vec![refused];
+    for spherical in [0, u32::MAX] {
+        cases.extend([
+            largest_grouping(64, 2, false, spherical),
+            largest_grouping(64, 2, true, spherical),
+            largest_grouping(4, 64, false, spherical),
+        ]);
+    }
+    and(cases)
 }
 
 /// A file of the most bytes whose rows are split.
@@ -130,6 +140,7 @@ fn longest_file(rows: u32, dim: u32, branching: u32, draw_count: usize) -> Batch
         branching,
         weight: 0.25,
         budget: 4_096,
+        spherical: 0,
     };
     let values = values(&mut random(), (rows * dim) as usize);
     let bare = 4 * (values.len() + draw_count) + TRAILER_BYTES;

@@ -108,7 +108,7 @@ module _ (r : tie.After-run-kmeans-flat) where
   training-same = length-front (z .args .training .now) (r .run-kmeans-flat .last .1 .1 .1 .1 .1 .1 .1 .1 .0) (cells z) (r .run-kmeans-flat .kept .1 .1 .1 .1 .1 .1 .1 .1 .0)
 
   -- it ran over the group's rows
-  ran : Ran (z .args .draws .now) forGrouping (parts z) (z .args .dim) (rowsAt (table z) (z .args .part .now)) (z .args .cursor) (r .run-kmeans-flat .result) labels-after (rowsFrom (z .args .dim) (parts z) centroids-after)
+  ran : Ran (z .args .draws .now) (forGrouping (z .args .config .spherical)) (parts z) (z .args .dim) (rowsAt (table z) (z .args .part .now)) (z .args .cursor) (r .run-kmeans-flat .result) labels-after (rowsFrom (z .args .dim) (parts z) centroids-after)
   ran = rw (r .before .before .before .before .before .for-grouping .ensures, labels-long (r .before .before .before .before .before .before .before .before .before .before .before .before), rows-hold (rows-of r) .is, rows-of r .gather-rows .ensures) at (r .run-kmeans-flat .ensures)
 
   -- the cursor's pass is a number of 32 bits
@@ -116,7 +116,7 @@ module _ (r : tie.After-run-kmeans-flat) where
   bits = z .good .1 .1 .1 .1 .1 .0 .1 .1 .1 .0 .1
 
   found : Labelled (z .args .rows) (parts z) (z .args .part .now) labels-after
-  found = labelled (z .args .dim) _ (table z) (z .args .part .now) (z .pre .1 .1 .1 .1) bits (z .pre .0 .limits .1 .0 .0) (z .pre .1 .0) (z .pre .1 .1 .1 .0) ran
+  found = labelled (forGrouping (z .args .config .spherical)) (z .args .dim) _ (table z) (z .args .part .now) (z .pre .1 .1 .1 .1) bits (z .pre .0 .limits .1 .0 .0) (z .pre .1 .0) (z .pre .1 .1 .1 .0) ran
 
 -- the copy of the group
 copied-hold : (c : tie.After-copy-cells) → let z = start-of (rows-of (c .before .before .before .before .before .before .before .before .before .before)) in Front (size z) (c .copy-cells .last .0 ++ drop (size z) (c .before .before .before .before .before .before .before .before .before .before .before .before .before .before .before .before .before .before .before .before .before .cell-room2 .result)) (z .args .part .now)
@@ -186,7 +186,7 @@ slice-aggregate-run-kmeans-flat-4 c = sym (training-long (c .before .before .bef
 run-kmeans-flat-requires : tie.Need-run-kmeans-flat-requires
 run-kmeans-flat-requires c κs =
     let z = c .before .before .before .before .before .before .before .before .before .before .before .before .before .before .before .before .before .before .before in
-    let s = split-space (c .before .before .before .before .for-grouping .result) (z .pre .0 .limits) (size-few z) (z .pre .1 .0) (labels-long (c .before .before .before .before .before .before .before .before .before .before .before)) (rows-hold (c .before .before .before .before .before .before .before) .long) (centroids-long (c .before .before .before .before .before .before .before .before .before .before .before .before)) (training-long z) (c .before .before .before .before .for-grouping .ensures) in
+    let s = split-space (c .before .before .before .before .for-grouping .result) (z .pre .0 .limits) (size-few z) (z .pre .1 .0) (labels-long (c .before .before .before .before .before .before .before .before .before .before .before)) (rows-hold (c .before .before .before .before .before .before .before) .long) (centroids-long (c .before .before .before .before .before .before .before .before .before .before .before .before)) (training-long z) (z .args .config .spherical) (c .before .before .before .before .for-grouping .ensures) in
     (s .0, (s .1, z .pre .1 .1 .1 .1))
 
 unplaced-refusal-requires : tie.Need-unplaced-refusal-requires
@@ -205,7 +205,7 @@ returns : tie.Need-returns
 returns c =
     let r = c .before .before .before .before .before .before .before in
     let s = z r in
-    split-done (s .args .config .mode) (s .args .dim) (table s) (s .args .config .weight) _ (s .pre .1 .1 .1 .1) (bits r) (size-few s) (ran r) (c .before .unplaced-refusal .ensures)
+    split-done (s .args .config .mode) (s .args .dim) (table s) (s .args .config .weight) (s .args .config .spherical) _ (s .pre .1 .1 .1 .1) (bits r) (size-few s) (ran r) (c .before .unplaced-refusal .ensures)
     (λ e. absurd (c .if1 .taken e))
 
 array-borrow-prefix-copied : tie.Need-array-borrow-prefix-copied
@@ -276,7 +276,7 @@ returns-2 c =
     let s = z r in
     let some = s .pre .0 .limits .0 .0 in
     let chosen = g .before .before .before .before .before .before .before .before .before in
-    split-done (s .args .config .mode) (s .args .dim) (table s) (s .args .config .weight) _ (s .pre .1 .1 .1 .1) (bits r) (size-few s) (ran r) (chosen .before .unplaced-refusal .ensures)
+    split-done (s .args .config .mode) (s .args .dim) (table s) (s .args .config .weight) (s .args .config .spherical) _ (s .pre .1 .1 .1 .1) (bits r) (size-few s) (ran r) (chosen .before .unplaced-refusal .ensures)
     (λ e. rw (as-many some (s .pre .0 .value-cells), as-many some (centroids-hold r .long), centroids-hold r .is, g .gather .kept .0, g .gather .kept .1 .1 .1 .0) at (c .before .before .before .before .balance-if .ensures (made g) (laid g)))
 
 pub split-cluster-spec : {M : Type 1} → statement M

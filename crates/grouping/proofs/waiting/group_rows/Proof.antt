@@ -17,7 +17,7 @@ use Rattle.grouping.proofs.waiting.group_rows.Tie as tie
 abbrev Inv-loop : tie.InvT-loop
 Inv-loop values dim config draws order₀ ends₀ sizes₀ waiting₀ gathered₀ training₀ rows top₀ groups₀ splits₀ unplaced₀ start₀ cursor₀ order ends sizes waiting gathered training top groups splits unplaced start cursor =
     Kept order₀ order ends₀ ends sizes₀ sizes waiting₀ waiting gathered₀ gathered training₀ training
-    × Clustering (config .mode) (ruleOf draws dim (rowsFrom dim (length order₀) values) (length sizes₀) (config .weight)) (config .limit) (config .budget) (length order₀) order waiting ends top groups splits unplaced start cursor
+    × Clustering (config .mode) (ruleOf draws dim (rowsFrom dim (length order₀) values) (length sizes₀) (config .weight) (config .spherical)) (config .limit) (config .budget) (length order₀) order waiting ends top groups splits unplaced start cursor
 
 abbrev μ-loop : tie.MeasureT-loop
 μ-loop values dim config draws order₀ ends₀ sizes₀ waiting₀ gathered₀ training₀ rows top₀ groups₀ splits₀ unplaced₀ start₀ cursor₀ order ends sizes waiting gathered training top groups splits unplaced start cursor =
@@ -79,7 +79,7 @@ module _ (c : tie.After-split-or-refuse Inv-loop μ-loop) where
   part-kept = c .split-or-refuse .kept .1 .1 .1 .1 .1 .1 .1 .0
 
   -- what became of the group, by the number of parts at the call's start
-  tried : Taken (s .args .config .mode) (ruleOf (s .args .draws .now) (s .args .dim) (rowsFrom (s .args .dim) (length (s .args .order .now)) (s .args .values .now)) (length (s .args .sizes .now)) (s .args .config .weight))
+  tried : Taken (s .args .config .mode) (ruleOf (s .args .draws .now) (s .args .dim) (rowsFrom (s .args .dim) (length (s .args .order .now)) (s .args .values .now)) (length (s .args .sizes .now)) (s .args .config .weight) (s .args .config .spherical))
       (s .args .config .budget) (k .loop .splits) (midOf (k .loop .start) (w .wide .result - k .loop .start) (k .loop .order)) (k .loop .cursor) (c .split-or-refuse .result) part-after sizes-after
   tried = rw (same k .sizes-kept) at (c .split-or-refuse .ensures)
 
@@ -108,7 +108,7 @@ loop-holds c =
     let s = c .before .before .before .before .before .before .before .before .before .before in
     let a = s .args in (
       record { order-kept = refl; ends-kept = refl; sizes-kept = refl; waiting-kept = refl; gathered-kept = refl; training-kept = refl },
-      clustering-start (a .config .mode) (a .draws .now) (a .dim) (a .values .now) (length (a .sizes .now)) (a .config .weight) (a .config .limit) (a .config .budget) (a .order .now) (s .pre .1 .1 .0)
+      clustering-start (a .config .mode) (a .draws .now) (a .dim) (a .values .now) (length (a .sizes .now)) (a .config .weight) (a .config .spherical) (a .config .limit) (a .config .budget) (a .order .now) (s .pre .1 .1 .0)
           (a .waiting .now) (a .ends .now) (c .before .least .result) (c .new .result) (s .pre .1 .0 .1 .1) (s .pre .1 .0 .0) (s .pre .1 .1 .1 .0) (s .pre .1 .1 .1 .1 .0) (c .before .least .ensures) (c .new .ensures (a .draws .now)),
     )
 

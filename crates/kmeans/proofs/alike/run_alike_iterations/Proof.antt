@@ -1,7 +1,7 @@
 use Prim.Native.Nat.{ℕ, _-_, _<_}
 use mathlib.Core.Path.{_≡_, refl, _∙_}
 use lib.ListN.{length, replicate}
-use Rattle.kmeans.proofs.Turns.{Onward, onward-start, onward-step, onward-end}
+use Rattle.kmeans.proofs.Turns.{handed, Onward, onward-start, onward-step, onward-end}
 use Rattle.kmeans.specs.Inside.{Alike, centroidsOf}
 use Rattle.sums.specs.Draws.{cursorAt}
 use borrow.Author.Needs.{needs}
@@ -28,20 +28,27 @@ run-alike-iteration-requires c κs =
     let v = c .before .before .before .before .before .loop .inv in
     rw (v .0 .0, v .0 .1 .0, v .0 .1 .1) (z .pre .0, v .1 .0)
 
+apply-spherical-requires : tie.Need-apply-spherical-requires Inv-loop μ-loop
+apply-spherical-requires c κs =
+    let z = c .before .before .before .before .before .before .before .before .before .before .before .before .before .before .before .before .before .before .before .before .before .before in
+    let v = c .before .before .before .before .before .before .before .before .before .before .before .before .before .loop .inv in
+    c .before .before .before .before .before .before .before .run-alike-iteration .kept .1 .1 .1 .1 .1 .1 .1 .0 ∙ v .0 .0 ∙ rw (← z .pre .1 .1 .0, ← z .pre .1 .0) (z .pre .0 .centroid-cells)
+
 add-i : tie.Need-add-i Inv-loop μ-loop
 add-i c = search needs
 
 loop-less : tie.Need-loop-less Inv-loop μ-loop
-loop-less c = omega (arith, c .before .before .before .before .before .before .before .before .before .before .if1 .taken)
+loop-less c = omega (arith, c .before .before .before .before .before .before .before .before .before .before .before .before .before .before .if1 .taken)
 
 loop-again : tie.Need-loop-again Inv-loop μ-loop
 loop-again c =
-    let z = c .before .before .before .before .before .before .before .before .before .before .before .before .before .before .before .before .before .before .before .before .before in
-    let v = c .before .before .before .before .before .before .before .before .before .before .before .before .loop .inv in
-    let w = c .before .before .before .before .before .before .run-alike-iteration in
+    let z = c .before .before .before .before .before .before .before .before .before .before .before .before .before .before .before .before .before .before .before .before .before .before .before .before .before in
+    let v = c .before .before .before .before .before .before .before .before .before .before .before .before .before .before .before .before .loop .inv in
+    let w = c .before .before .before .before .before .before .before .before .before .before .run-alike-iteration in
+    let u = c .before .before .apply-spherical in
     let t = rw (v .0 .1 .0 ∙ z .pre .1 .1 .0, z .pre .1 .0) at (w .ensures) in (
-      (w .kept .1 .1 .1 .1 .1 .1 .1 .0 ∙ v .0 .0, (w .kept .1 .1 .1 .1 .1 .1 .1 .1 .0 ∙ v .0 .1 .0, w .kept .1 .1 .1 .1 .1 .1 .1 .1 .1 .0 ∙ v .0 .1 .1)),
-      (t .1, λ a n p. onward-step _ _ _ _ _ (v .1 .1 a n p) (c .before .before .before .before .before .before .before .before .before .before .if1 .taken) (t .0 (z .args .plan .block) a)),
+      (u .kept .1 .0 ∙ w .kept .1 .1 .1 .1 .1 .1 .1 .0 ∙ v .0 .0, (w .kept .1 .1 .1 .1 .1 .1 .1 .1 .0 ∙ v .0 .1 .0, w .kept .1 .1 .1 .1 .1 .1 .1 .1 .1 .0 ∙ v .0 .1 .1)),
+      (t .1, λ a n p. onward-step _ _ _ _ _ (v .1 .1 a n p) (c .before .before .before .before .before .before .before .before .before .before .before .before .before .before .if1 .taken) (handed (z .args .plan .spherical) (t .0 (z .args .plan .block) a) (u .ensures))),
     )
 
 same-length : tie.Need-same-length Inv-loop μ-loop
@@ -66,6 +73,7 @@ run-alike-iterations-spec =
     μ-loop
     loop-holds
     run-alike-iteration-requires
+    apply-spherical-requires
     add-i
     loop-less
     loop-again

@@ -202,31 +202,36 @@ update-centroids-requires c κs =
       ((t .training-cells, ((t .some-rows, omega (arith, t .few-rows)), rw (distances-sized w) at (p .pool-for .ensures .0 .1))), z .pre .1 .1 .1),
     )
 
+apply-spherical-requires : tie.Need-apply-spherical-requires
+apply-spherical-requires c κs =
+    let z = start (labelling (adding (c .before .before .before .before .before .before .before .before .before .before .before .before .before .before .before .before))) in
+    c .before .before .before .update-centroids .kept .0 ∙ z .pre .0 .centroid-cells
+
 same-length-6 : tie.Need-same-length-6
-same-length-6 c = c .before .before .update-centroids .kept .0
+same-length-6 c = c .before .before .apply-spherical .kept .1 .0 ∙ c .before .before .before .before .before .before .update-centroids .kept .0
 
 same-length-7 : tie.Need-same-length-7
-same-length-7 c = (labelling (adding (c .before .before .before .before .before .before .before .before .before .before .before .before .before .before .before))) .assign-rows .kept .1 .1 .1 .1 .1 .0
+same-length-7 c = (labelling (adding (c .before .before .before .before .before .before .before .before .before .before .before .before .before .before .before .before .before .before .before))) .assign-rows .kept .1 .1 .1 .1 .1 .0
 
 same-length-8 : tie.Need-same-length-8
-same-length-8 c = (labelling (adding (c .before .before .before .before .before .before .before .before .before .before .before .before .before .before .before))) .assign-rows .kept .1 .1 .1 .1 .1 .1 .0
+same-length-8 c = (labelling (adding (c .before .before .before .before .before .before .before .before .before .before .before .before .before .before .before .before .before .before .before))) .assign-rows .kept .1 .1 .1 .1 .1 .1 .0
 
 same-length-9 : tie.Need-same-length-9
-same-length-9 c = (adding (c .before .before .before .before .before .before .before .before .before .before .before .before .before .before .before)) .accumulate .kept .1 .1 .1 .1 .0
+same-length-9 c = (adding (c .before .before .before .before .before .before .before .before .before .before .before .before .before .before .before .before .before .before .before)) .accumulate .kept .1 .1 .1 .1 .0
 
 same-length-10 : tie.Need-same-length-10
-same-length-10 c = c .before .before .before .before .before .before .before .before .before .before .before .before .before .before .before .pool-for .kept .1 .1 .1 .0
+same-length-10 c = c .before .before .before .before .before .before .before .before .before .before .before .before .before .before .before .before .before .before .before .pool-for .kept .1 .1 .1 .0
 
 returns-2 : tie.Need-returns-2
 returns-2 c =
-    let p = c .before .before .before .before .before .before .before .before .before .before .before .before .before .before .before in
+    let p = c .before .before .before .before .before .before .before .before .before .before .before .before .before .before .before .before .before .before .before in
     let u = adding p in
     let w = labelling u in
     let a = (start w) .args in
     let f = p .before .before .before .before .before .before .before .all-filled in
     iteration-goes _ (a .plan) _ _ _ _ _ _ _ _ (labelled w) (summed u) (a .before) (a .again) (f .result) (p .pool-for .result) (a .at .now) (p .pool-for .last .1 .1 .1 .0)
-    (rw (counts-back u .is) at (f .ensures)) (gathered p) (counts-sized u) _ (c .before .before .update-centroids .result)
-    (rw (counts-back u .long, counts-back u .is) at (c .before .before .update-centroids .ensures))
+    (rw (counts-back u .is) at (f .ensures)) (gathered p) (counts-sized u) _ _ (c .before .before .before .before .before .before .update-centroids .result)
+    (rw (counts-back u .long, counts-back u .is) at (c .before .before .before .before .before .before .update-centroids .ensures)) (c .before .before .apply-spherical .ensures)
 
 pub run-iteration-spec : {M : Type 1} → statement M
 run-iteration-spec =
@@ -262,6 +267,7 @@ run-iteration-spec =
     array-share-prefix-counts-3
     slice-aggregate-update-centroids
     update-centroids-requires
+    apply-spherical-requires
     same-length-6
     same-length-7
     same-length-8

@@ -42,7 +42,7 @@ kmeans-told-requires : tie.Need-kmeans-told-requires
 kmeans-told-requires c κs =
     let z = c .before .before .before .before .before .before .before .before .before .before .before .before .before .before .before .before .before .before .before .before .before .before .before .before .before .before .before .before .before .before .before .before .before .before .before .before .before .before .before .before .before .before in
     let k = c .before .before .before .before .before .before .before .before .families-kmeans in
-    (z .pre .0 .0, (z .pre .1 .0 ∙ ap (λ (n : ℕ). n * 4) (sym (k .kept .1 .1 .1 .1 .1 .1 .1 .1 .1 .0)), z .pre .1 .1 .0 ∙ ap (λ (n : ℕ). n * 4) (sym (k .kept .1 .1 .1 .1 .1 .1 .1 .1 .1 .1 .0))))
+    (z .pre .0 .0, (z .pre .1 .0 ∙ ap (λ (n : ℕ). n * 4) (sym (k .kept .1 .1 .1 .1 .1 .1 .1 .1 .1 .1 .0)), z .pre .1 .1 .0 ∙ ap (λ (n : ℕ). n * 4) (sym (k .kept .1 .1 .1 .1 .1 .1 .1 .1 .1 .1 .1 .0))))
 
 same-length : tie.Need-same-length
 same-length c = c .before .before .before .before .before .before .before .before .before .before .before .before .before .before .before .before .before .before .before .before .before .before .before .before .before .before .before .before .before .before .before .words-of .kept .1 .0
@@ -51,20 +51,20 @@ same-length-2 : tie.Need-same-length-2
 same-length-2 c = c .before .before .before .before .before .before .before .before .before .before .before .before .before .before .before .before .before .before .before .before .before .before .before .before .before .before .before .floats-of .kept .1 .0
 
 same-length-3 : tie.Need-same-length-3
-same-length-3 c = c .before .before .before .before .before .before .before .before .before .families-kmeans .kept .1 .1 .1 .1 .1 .1 .1 .1 .1 .0
+same-length-3 c = c .before .before .before .before .before .before .before .before .before .families-kmeans .kept .1 .1 .1 .1 .1 .1 .1 .1 .1 .1 .0
 
 same-length-4 : tie.Need-same-length-4
-same-length-4 c = c .before .before .before .before .before .before .before .before .before .families-kmeans .kept .1 .1 .1 .1 .1 .1 .1 .1 .1 .1 .0
+same-length-4 c = c .before .before .before .before .before .before .before .before .before .families-kmeans .kept .1 .1 .1 .1 .1 .1 .1 .1 .1 .1 .1 .0
 
 same-length-5 : tie.Need-same-length-5
-same-length-5 c = c .before .before .before .before .before .before .before .before .before .families-kmeans .kept .1 .1 .1 .1 .1 .1 .1 .1 .1 .1 .1 .1 .1 .1 .0
+same-length-5 c = c .before .before .before .before .before .before .before .before .before .families-kmeans .kept .1 .1 .1 .1 .1 .1 .1 .1 .1 .1 .1 .1 .1 .1 .1 .0
 
 returns : tie.Need-returns
 unfolding kmeansAgreesOf
 returns c =
     let z = c .before .before .before .before .before .before .before .before .before .before .before .before .before .before .before .before .before .before .before .before .before .before .before .before .before .before .before .before .before .before .before .before .before .before .before .before .before .before .before .before .before .before .before in
     let k = c .before .before .before .before .before .before .before .before .before .families-kmeans in
-    kmeans-agreed _ (z .args .head .now) (z .args .labels .now) (z .args .centroids .now) (length (z .args .l .now)) (length (z .args .c .now)) (k .result) _ _ _ _ _ _ (c .kmeans-told .ensures) (k .kept .1 .1 .1 .1 .1 .1 .1 .1 .1 .0) (k .kept .1 .1 .1 .1 .1 .1 .1 .1 .1 .1 .0)
+    kmeans-agreed _ (z .args .head .now) (z .args .labels .now) (z .args .centroids .now) (length (z .args .l .now)) (length (z .args .c .now)) (k .result) _ _ _ _ _ _ (c .kmeans-told .ensures) (k .kept .1 .1 .1 .1 .1 .1 .1 .1 .1 .1 .0) (k .kept .1 .1 .1 .1 .1 .1 .1 .1 .1 .1 .1 .0)
     (kmeans-read (z .args .head .now) (z .args .draws .now) (z .args .values .now) (length (z .args .d .now)) (length (z .args .v .now)) (length (z .args .l .now)) (length (z .args .c .now)) _ _ _ _ _ _ _ _ _ _ _ _ _ _ _ _ (c .before .before .before .before .before .before .before .before .before .before .before .before .before .before .before .before .before .before .before .before .before .before .before .before .u32-at .ensures) (c .before .before .before .before .before .before .before .before .before .before .before .before .before .before .before .before .before .before .before .before .before .before .before .u32-at2 .ensures) (c .before .before .before .before .before .before .before .before .before .before .before .before .before .before .before .before .before .before .before .before .before .before .u32-at3 .ensures) (c .before .before .before .before .before .before .before .before .before .before .before .before .before .before .before .before .before .before .before .before .before .u32-at4 .ensures) (c .before .before .before .before .before .before .before .before .before .before .before .before .before .before .before .before .before .before .before .before .u32-at5 .ensures) (c .before .before .before .before .before .before .before .before .before .before .before .before .before .before .before .before .before .before .before .u32-at6 .ensures) (c .before .before .before .before .before .before .before .before .before .before .before .before .before .before .before .before .before .before .u32-at7 .ensures) (c .before .before .before .before .before .before .before .before .before .before .before .before .before .before .before .before .before .before .before .before .before .before .before .before .before .before .before .before .before .before .before .words-of .ensures) (c .before .before .before .before .before .before .before .before .before .before .before .before .before .before .before .before .before .before .before .before .before .before .before .before .before .before .before .floats-of .ensures) (z .pre .1 .1 .1) (k .ensures .0))
 
 pub kmeans-inside-spec : {M : Type 1} → statement M

@@ -1,7 +1,7 @@
 use Rattle.exports.proofs.Exporting.{group-gave}
 use borrow.Author.Needs.{needs}
-use Rattle.exports.proofs.slices.group_in.Statement.{statement}
-use Rattle.exports.proofs.slices.group_in.Tie as tie
+use Rattle.exports.proofs.slices.group_by.Statement.{statement}
+use Rattle.exports.proofs.slices.group_by.Tie as tie
 
 hierarchical-clustering-requires : tie.Need-hierarchical-clustering-requires
 hierarchical-clustering-requires c κs = search needs
@@ -29,8 +29,8 @@ returns c =
     let h = c .before .before .before .before .before .before .before .before .before .before .before .before .before .before .hierarchical-clustering in
     (group-gave _ _ _ _ _ _ _ _ _ _ _ _ _ _ (h .ensures .0) (c .put-counts .ensures .0) (c .put-counts .ensures .1), h .ensures .1)
 
-pub group-in-spec : {M : Type 1} → statement M
-group-in-spec =
+pub group-by-spec : {M : Type 1} → statement M
+group-by-spec =
     tie.close
     (tie.spec
     hierarchical-clustering-requires
