@@ -1,5 +1,5 @@
-// What hosts call: the functions on bytes, and those over typed slices. A slice goes as its pointer and its length; counts are numbers, and
-// each call holds the lengths against them.
+// What hosts call: the functions on bytes, those over typed slices, and the root by itself. A slice goes as its pointer and its length; counts
+// are numbers, and each call holds the lengths against them.
 pub mod bytes;
 pub mod root;
 pub mod slices;

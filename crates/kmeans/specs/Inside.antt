@@ -68,7 +68,7 @@ repeats (zero ∷ counts) [] old = false
 repeats (zero ∷ counts) (p ∷ new) [] = false
 repeats (zero ∷ counts) (p ∷ new) (q ∷ old) = eqb p q && repeats counts new old
 
--- One iteration (01, 'K-means' step 3), after what the one before told: the update that the labels and the positions at hand lead to was made; or
+-- One iteration (01, 'K-means' step 3), after what the one before told: the update that the labels and the positions at hand lead to was made, at length one where that is on (02 (iv)); or
 -- it stopped, since the labels and the refills are those of the one before.
 pub record Iteration (draws : List ℕ) (plan : Plan) (training centroids₀ centroids : List Row) (labels₀ labels at₀ at : List ℕ) (before r : Iterated) (again : Bool) : Type 0 where
   pub labelled : labels ≡ labelsOf (nearests centroids₀ training)

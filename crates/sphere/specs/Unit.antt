@@ -14,11 +14,11 @@ timesAll factor row = map (λ v. mul binary32 v factor) row
 unfoldable pub unitIf : Float → Row → Row
 unitIf norm row = cond (lt zero32 norm) (timesAll (div binary32 one32 (rootOf norm)) row) row
 
--- one centroid
+-- one centroid, its norm summed ascending
 unfoldable pub unitRow : Row → Row
 unitRow row = unitIf (normOf row) row
 
--- what an iteration hands on, with the setting on or off
+-- every centroid so with the setting on, and none with it off
 unfoldable pub sphered : Bool → List Row → List Row
 sphered false rows = rows
 sphered true rows = map unitRow rows
