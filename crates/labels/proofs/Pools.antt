@@ -1,7 +1,7 @@
 -- The pool as the code holds it: what one insertion leaves, insertions one after the other, a block's pool, the blocks in turn. Assumes nothing.
 use Prim.Native.Nat.{ℕ, zero, suc, _+_, _-_, _≤_, _<_, min}
 use mathlib.Core.Path.{_≡_, refl, sym, _∙_}
-use mathlib.Core.Logic.{_⊎_}
+use mathlib.Core.Logic.{_⊎_, inl, inr}
 use mathlib.Core.List.{List, [], _∷_, _++_, map, map-append, append-assoc, append-nil}
 use native.Mathlib.Decide.{decLe}
 use native.Mathlib.Numerals.{add-one}
@@ -45,12 +45,14 @@ module _ (ds : List Float) (at : List ℕ) (count cap p : ℕ) (h : Holds ds at 
       let w = place-within (farther ds) at count cap p (h .1 .0) (h .1 .1 .0) in
       record { front = place-past (farther ds) at count cap p (h .1 .0) (h .1 .1 .0) (omega (arith, h .1 .0, w)) (omega (arith, h .1 .0, w)); rest = refl; held = h }
 
-  -- the last of a full pool falls out, or there is room left
-  pub goes-in : (to last r : ℕ) (at' : List ℕ) → at' ≡ inserted at to last p → length at' ≡ length at → r ≡ last + 1 → to ≡ placeOf (farther ds) p (take count at) → to ≤ last → last ≤ count → last < cap → (last + 1 ≡ cap) ⊎ (last ≡ count)
-      → Pooled ds at count cap (p ∷ []) r at'
+  -- one shift, up to the first free cell or to the last of a full pool, whose row falls out
+  pub goes-in : (to last : ℕ) (at' : List ℕ) → to ≡ placeOf (farther ds) p (take count at) → to ≤ last → last ≡ min count (cap - 1) → at' ≡ inserted at to last p → length at' ≡ length at
+      → Pooled ds at count cap (p ∷ []) (last + 1) at'
   unfolding orderFrom
-  goes-in to last r at' i k f e a b c w =
-      let g : take r at' ≡ take cap (place (farther ds) p (take count at)) = rw (f, i) (place-in (farther ds) at count cap p (h .1 .0) (h .1 .1 .0) to last e a b c w) in
+  goes-in to last at' e a m i k =
+      let c : last < cap = omega (arith, h .0) in
+      let w : (last + 1 ≡ cap) ⊎ (last ≡ count) = elim (decLe cap count) [ yes q ↦ inl (omega (arith, h .0)) | no q ↦ inr (omega arith) ] in
+      let g : take (last + 1) at' ≡ take cap (place (farther ds) p (take count at)) = rw i (place-in (farther ds) at count cap p (h .1 .0) (h .1 .1 .0) to last e a (omega arith) c w) in
       record {
         front = g;
         rest = rw i (inserted-rest at to last p a (omega (arith, h .1 .1 .0)) cap c);

@@ -1,9 +1,7 @@
 use Rattle.labels.proofs.Pools.{pooled-out, stays, goes-in}
 use Rattle.sums.proofs.Inserts.{place-within}
 use Rattle.labels.specs.Pool.{farther}
-use mathlib.Core.Logic.{inl, inr}
-use mathlib.Core.Path.{refl}
-use Prim.Native.Nat.{_≤_, _-_}
+use Prim.Native.Nat.{_≤_}
 use native.Mathlib.Omega.{arith}
 use borrow.Author.Needs.{needs}
 use Rattle.labels.proofs.pool.insert_candidate.Statement.{statement}
@@ -11,13 +9,6 @@ use Rattle.labels.proofs.pool.insert_candidate.Tie as tie
 
 place-requires : tie.Need-place-requires
 place-requires c κs = search needs
-
--- the place is among the first `count`, or just past them
-within : (c : tie.After-place) → c .place .result ≤ c .before .before .before .before .args .count
-within c =
-    let z = c .before .before .before .before in
-    let a = z .args in
-    rw (c .place .ensures) (place-within (farther (a .distances .now)) (a .at .now) (a .count) (a .cap) (a .p) (z .pre .0 .1 .0) (z .pre .0 .1 .1 .0))
 
 same-length : tie.Need-same-length
 same-length c = search needs
@@ -28,40 +19,37 @@ returns c =
     let a = z .args in
     pooled-out (stays (a .distances .now) (a .at .now) (a .count) (a .cap) (a .p) (z .pre .0) (z .pre .1) (omega (arith, c .before .place .ensures, c .if1 .taken)))
 
-sub-insert-at : tie.Need-sub-insert-at
-sub-insert-at c = search needs
+sub-least : tie.Need-sub-least
+sub-least c = search needs
+
+least-requires : tie.Need-least-requires
+least-requires c κs = search needs
+
+-- a place inside the cap is no later than where the shift ends
+within : (c : tie.After-least) → c .before .before .place .result ≤ c .least .result
+within c =
+    let z = c .before .before .before .before .before .before in
+    let a = z .args in
+    omega
+    (arith, place-within (farther (a .distances .now)) (a .at .now) (a .count) (a .cap) (a .p) (z .pre .0 .1 .0) (z .pre .0 .1 .1 .0), c .before .before .place .ensures, c .before .if1 .left, c .least .ensures, z .pre .0)
 
 insert-at-requires : tie.Need-insert-at-requires
-insert-at-requires c κs = omega (arith, within (c .before .before .before), c .before .before .before .before .before .before .before .pre .0)
+insert-at-requires c κs = omega (arith, within (c .before), c .before .least .ensures, c .before .before .before .before .before .before .before .pre .0)
+
+add-result : tie.Need-add-result
+add-result c = search needs
 
 same-length-2 : tie.Need-same-length-2
 same-length-2 c = search needs
 
 returns-2 : tie.Need-returns-2
 returns-2 c =
-    let z = c .before .before .before .before .before .before .before .before .before .before in
-    let m = c .before .before .before .before .before .before in
+    let l = c .before .before .before .before in
+    let z = l .before .before .before .before .before .before in
+    let a = z .args in
     let i = c .before .before .insert-at in
-    let a = z .args in
-    pooled-out (goes-in (a .distances .now) (a .at .now) (a .count) (a .cap) (a .p) (z .pre .0) (z .pre .1) (m .place .result) (z .args .count - 1) _ _ (i .ensures) (i .kept .0) (omega (arith, z .pre .0, c .before .before .before .before .if2 .taken)) (m .place .ensures)
-    (omega (arith, within m, z .pre .0)) (omega arith) (omega (arith, z .pre .0)) (inl (omega (arith, z .pre .0))))
-
-insert-at-requires-2 : tie.Need-insert-at-requires-2
-insert-at-requires-2 c κs = omega (arith, within (c .before .before .before), c .before .before .before .before .before .before .before .pre .0)
-
-add-result : tie.Need-add-result
-add-result c = search needs
-
-same-length-3 : tie.Need-same-length-3
-same-length-3 c = search needs
-
-returns-3 : tie.Need-returns-3
-returns-3 c =
-    let z = c .before .before .before .before .before .before .before .before .before .before in
-    let m = c .before .before .before .before .before .before in
-    let i = c .before .before .insert-at2 in
-    let a = z .args in
-    pooled-out (goes-in (a .distances .now) (a .at .now) (a .count) (a .cap) (a .p) (z .pre .0) (z .pre .1) (m .place .result) (z .args .count) _ _ (i .ensures) (i .kept .0) refl (m .place .ensures) (within m) (omega arith) (omega (arith, z .pre .0)) (inr refl))
+    pooled-out
+    (goes-in (a .distances .now) (a .at .now) (a .count) (a .cap) (a .p) (z .pre .0) (z .pre .1) (l .before .before .place .result) (l .least .result) _ (l .before .before .place .ensures) (within l) (l .least .ensures) (i .ensures) (i .kept .0))
 
 pub insert-candidate-spec : {M : Type 1} → statement M
 insert-candidate-spec =
@@ -70,11 +58,9 @@ insert-candidate-spec =
     place-requires
     same-length
     returns
-    sub-insert-at
+    sub-least
+    least-requires
     insert-at-requires
-    same-length-2
-    returns-2
-    insert-at-requires-2
     add-result
-    same-length-3
-    returns-3)
+    same-length-2
+    returns-2)
