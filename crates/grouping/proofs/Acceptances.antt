@@ -13,7 +13,8 @@ use Rattle.grouping.specs.Groups.{Groups, endsFrom}
 use Rattle.grouping.specs.Inside.{Grouped}
 use Rattle.grouping.specs.Answers.{figures}
 use Rattle.grouping.proofs.Averages.{heads}
-use Rattle.grouping.proofs.Stretches.{part-within, padded-is, ends-length, start-is, end-is}
+use Rattle.sums.proofs.Refusing.{padded-is}
+use Rattle.grouping.proofs.Stretches.{part-within, ends-length, start-is, end-is}
 
 -- the same, its cells counted otherwise
 pub grouped-at : {answer : Answer Groups} {n : ℕ} {r : GroupingAnswer} {order ends : List ℕ} (m : ℕ) → m ≡ n → Grouped answer n r order ends → Grouped answer m r order ends

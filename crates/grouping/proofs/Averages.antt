@@ -16,9 +16,10 @@ use Rattle.sums.specs.Refusals.{padded}
 use Rattle.sums.proofs.Tables.{over-read, over-more, over-done, map-index}
 use Rattle.sums.specs.Cells.{Below}
 use Rattle.sums.proofs.Rows.{room, part-length}
+use Rattle.sums.proofs.Fronts.{flat-length}
 use Rattle.sums.proofs.Refusing.{padded-none}
 use Rattle.grouping.specs.Groups.{meanOf, endsFrom}
-use Rattle.grouping.proofs.Stretches.{flatten-part, flatMap-snoc, flatMap-length, padded-part, ends-length, start-is, end-is}
+use Rattle.grouping.proofs.Stretches.{flatten-part, flatMap-snoc, padded-part, ends-length, start-is, end-is}
 
 -- ---- division in place
 abbrev pub dividedBy : ℕ → Row → Row
@@ -119,7 +120,7 @@ module _ {values : Row} {dim : ℕ} {order ends : List ℕ} {groups : ℕ} {mean
           let z : end - start ≡ length (getD gs g []) = omega arith in
           let m : midOf start (end - start) order ≡ getD gs g [] = rw (z, b, o) (flatten-part gs g (omega arith)) in
           let x : length (flatMap (meanOf dim R) (take g gs)) ≡ g * dim
-          = flatMap-length (meanOf dim R) dim (mean-length dim R) (take g gs) ∙ rw (length-take-le g gs (omega arith)) in
+          = flat-length (meanOf dim R) dim (mean-length dim R) (take g gs) ∙ rw (length-take-le g gs (omega arith)) in
           let l : length (meanOf dim R (getD gs g [])) ≡ dim = mean-length dim R (getD gs g []) in
           let t : flatMap (meanOf dim R) (take (g + 1) gs) ≡ flatMap (meanOf dim R) (take g gs) ++ meanOf dim R (getD gs g [])
           = rw (add-one g, take-suc gs g [] (omega arith)) (flatMap-snoc (meanOf dim R) (take g gs) (getD gs g [])) in

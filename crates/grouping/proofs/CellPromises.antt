@@ -12,7 +12,8 @@ use Rattle.sums.specs.Sums.{zero32}
 use Rattle.sums.specs.Refusals.{Answer, accepted, refused, onAccepted, cellsOf, padded, blankCell, Cleared}
 use Rattle.sums.proofs.Weighs.{countOf}
 use Rattle.sums.proofs.Pairs.{all-at}
-use Rattle.sums.proofs.Refusing.{same-cons, padded-all, padded-none, padded-length, padded-at, padded-past, cleared-same}
+use Rattle.sums.proofs.Fronts.{flat-length}
+use Rattle.sums.proofs.Refusing.{same-cons, padded-all, padded-none, padded-is, padded-length, padded-at, padded-past, cleared-same}
 use Rattle.labels.specs.declared.mode.Mode.the-variants.{Strict}
 use Rattle.grouping.specs.declared.config.GroupingConfig.{GroupingConfig}
 use Rattle.grouping.specs.declared.waiting.GroupingAnswer.{GroupingAnswer}
@@ -20,7 +21,7 @@ use Rattle.grouping.specs.declared.waiting.GroupingAnswer.the-variants.{
 use Rattle.grouping.specs.Groups.{Groups, meanOf, endsFrom}
 use Rattle.grouping.specs.Answers.{figures, told}
 use Rattle.grouping.specs.Call.{lengthsFit, Gives}
-use Rattle.grouping.proofs.Stretches.{flatten-part, flatMap-part, flatMap-length, padded-is, ends-length, start-is, end-is}
+use Rattle.grouping.proofs.Stretches.{flatten-part, flatMap-part, ends-length, start-is, end-is}
 use Rattle.grouping.proofs.Averages.{mean-length}
 use Rattle.grouping.proofs.GroupPromises.{Sized, Listing, some-group}
 use Rattle.grouping.proofs.CallPromises.{call, passed-exactly, accepted-passed, EndsAfter, accepted-splits, call-listing, call-unplaced, call-placed}
@@ -192,7 +193,7 @@ module _ (rows dim : ℕ) (config : GroupingConfig) (drawn : List ℕ) (values :
     mean-cells : Means dim rows groups table order ends means
     mean-cells =
         let f : List ℕ → Row = meanOf dim table in
-        let n : length (flatMap f gs) ≡ groups * dim = flatMap-length f dim (mean-length dim table) gs ∙ rw (b .counted) in
+        let n : length (flatMap f gs) ≡ groups * dim = flat-length f dim (mean-length dim table) gs ∙ rw (b .counted) in
         let room : length (flatMap f gs) ≤ meanCells = rw (n, fits .mean-cells) (mul-le-mul-right dim (omega (arith, listing .most, b .counted))) in
         record {
           mean = λ i h.

@@ -9,7 +9,7 @@ use lib.ListN.{length, getD, take, drop, replicate, length-append, length-replic
 use lib.Seq.{take-at, drop-append-add}
 use Rattle.sums.specs.Refusals.{padded}
 use Rattle.sums.proofs.Fronts.{put-at}
-use Rattle.sums.proofs.Refusing.{padded-none}
+use Rattle.sums.proofs.Refusing.{padded-is}
 use Rattle.grouping.specs.Groups.{endsFrom}
 
 -- ---- general
@@ -31,13 +31,6 @@ module _ {A : Type 0} where
   flatten-part (g ∷ gs) (suc i) h =
       rw (length-append g (flatten (take i gs)), drop-append-add g (flatten gs) (length (flatten (take i gs)))) (flatten-part gs i (le-of-suc-le-suc h))
 
-  -- cells padded: the values, and so many blanks
-  pub padded-is : (blank : A) (n m : ℕ) (xs : List A) → n ≡ length xs + m → padded blank n xs ≡ xs ++ replicate m blank
-  unfolding padded
-  padded-is blank n m [] e = padded-none blank n ∙ (let f : n ≡ m = omega arith in rw f)
-  padded-is blank zero m (x ∷ xs) e = absurd (omega arith)
-  padded-is blank (suc n) m (x ∷ xs) e = ap (λ (l : List A). x ∷ l) (padded-is blank n m xs (omega arith))
-
   -- a part put where the blanks begin
   pub padded-part : (blank : A) (n : ℕ) (xs row : List A) → length xs + length row ≤ n
       → putMid (length xs) (length row) (padded blank n xs) row ≡ padded blank n (xs ++ row)
@@ -53,11 +46,6 @@ module _ {A B : Type 0} (f : A → List B) where
   unfolding flatMap
   flatMap-snoc [] x = append-nil (f x)
   flatMap-snoc (y ∷ l) x = ap (λ (r : List B). f y ++ r) (flatMap-snoc l x) ∙ sym (append-assoc (f y) (flatMap f l) (f x))
-
-  pub flatMap-length : (dim : ℕ) → ((x : A) → length (f x) ≡ dim) → (l : List A) → length (flatMap f l) ≡ length l * dim
-  unfolding flatMap
-  flatMap-length dim h [] = omega arith
-  flatMap-length dim h (x ∷ l) = rw (length-append (f x) (flatMap f l), suc-mul (length l) dim) (omega (arith, h x, flatMap-length dim h l))
 
   -- what f gives of element i is part i of all that it gives, each dim long
   pub flatMap-part : (dim : ℕ) → ((x : A) → length (f x) ≡ dim) → (l : List A) (rest : List B) (i : ℕ) (d : A) → i < length l

@@ -1,9 +1,9 @@
 -- Fronts and rests of lists, under a map too, and what is lent of an array or put back into it. Assumes nothing.
-use Prim.Native.Nat.{ℕ, zero, suc, _+_, _-_, _≤_, min, suc-le-suc, zero-le}
+use Prim.Native.Nat.{ℕ, zero, suc, _+_, _-_, _*_, _≤_, min, suc-le-suc, zero-le}
 use mathlib.Core.Path.{_≡_, refl, sym, ap, _∙_}
 use mathlib.Core.Bool.{Bool, true, false}
 use mathlib.Core.List.{List, [], _∷_, _++_, flatMap, append-assoc}
-use native.Mathlib.Nat.{not-suc-le-zero, le-of-suc-le-suc, add-sub-cancel-left}
+use native.Mathlib.Nat.{not-suc-le-zero, le-of-suc-le-suc, add-sub-cancel-left, suc-mul}
 use native.Mathlib.Omega.{arith}
 use borrow.Author.Tests.{leb-true, leb-false}
 use borrow.Rule.Slice.PartMut.{midOf, putMid}
@@ -116,3 +116,9 @@ pub flat-append : {A B : Type 0} (f : A → List B) (l m : List A) → flatMap f
 unfolding flatMap
 flat-append f [] m = refl
 flat-append {B = B} f (x ∷ l) m = ap (λ (r : List B). f x ++ r) (flat-append f l m) ∙ sym (append-assoc (f x) (flatMap f l) (flatMap f m))
+
+-- so many elements, and each gives as many
+pub flat-length : {A B : Type 0} (f : A → List B) (dim : ℕ) → ((x : A) → length (f x) ≡ dim) → (l : List A) → length (flatMap f l) ≡ length l * dim
+unfolding flatMap
+flat-length f dim h [] = omega arith
+flat-length f dim h (x ∷ l) = rw (length-append (f x) (flatMap f l), suc-mul (length l) dim) (omega (arith, h x, flat-length f dim h l))

@@ -102,6 +102,13 @@ module _ {A : Type 0} where
   padded-none blank zero = refl
   padded-none blank (suc n) = ap (λ (l : List A). blank ∷ l) (padded-none blank n)
 
+  -- the values, and so many blanks
+  pub padded-is : (blank : A) (n m : ℕ) (xs : List A) → n ≡ length xs + m → padded blank n xs ≡ xs ++ replicate m blank
+  unfolding padded
+  padded-is blank n m [] e = padded-none blank n ∙ (let f : n ≡ m = omega arith in rw f)
+  padded-is blank zero m (x ∷ xs) e = absurd (omega arith)
+  padded-is blank (suc n) m (x ∷ xs) e = ap (λ (l : List A). x ∷ l) (padded-is blank n m xs (omega arith))
+
   -- there are as many cells as were lent
   pub padded-length : (blank : A) (n : ℕ) (xs : List A) → length (padded blank n xs) ≡ n
   unfolding padded

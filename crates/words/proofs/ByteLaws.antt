@@ -42,7 +42,7 @@ pub floats-read : (n m count : ℕ) (bytes : List ℕ) (l : List Float) → l �
 floats-read n m count bytes l e f h = e ∙ rw f (floats-front count m bytes h)
 
 -- ---- four bytes
-next : (l : List ℕ) (i j : ℕ) → j ≡ i + 1 → i < length l → drop i l ≡ getD l i 0 ∷ drop j l
+pub next : (l : List ℕ) (i j : ℕ) → j ≡ i + 1 → i < length l → drop i l ≡ getD l i 0 ∷ drop j l
 next l i j e h = rw (e, add-one i) (drop-cons l i 0 h)
 
 pub four : (bytes : List ℕ) (at : ℕ) → at + 4 ≤ length bytes
