@@ -1,12 +1,11 @@
 -- The exported functions: refusals 1 and 2, cells as bytes, and from an answer to its number and bytes. Assumes nothing.
 use Prim.Native.Nat.{ℕ, zero, suc, _+_, _*_, _/_, _%_, _≤_, _<_}
 use mathlib.Core.Path.{_≡_, refl, sym, ap, _∙_}
-use mathlib.Core.List.{List, [], _∷_, _++_, flatMap, append-assoc}
-use native.Mathlib.Numerals.{add-one}
+use mathlib.Core.List.{List, [], _∷_, _++_, flatMap}
 use native.Mathlib.Omega.{arith}
 use borrow.Author.Tests.{eqb-true, le-leb, eq-eqb}
-use lib.ListN.{length, getD, take, drop, replicate, length-append, drop-of-length-le}
-use lib.Seq.{take-suc, take-all, take-at, length-take-le}
+use lib.ListN.{length, getD, take, drop, replicate, length-append, length-drop, drop-of-length-le}
+use lib.Seq.{take-all, take-at}
 use lib.Ieee.{Float}
 use Rattle.sums.specs.Rows.{Row, rowsFrom}
 use Rattle.sums.specs.Refusals.{Answer, accepted, refused, lowestFrom, unless, onAccepted, padded, cellsOf, blankCell}
@@ -31,29 +30,22 @@ use Rattle.grouping.specs.Groups.{Groups}
 use Rattle.grouping.specs.Answers.{told as groupsTold, figures}
 use Rattle.grouping.specs.declared.waiting.GroupingAnswer.{GroupingAnswer}
 use Rattle.grouping.specs.Call.{Gives as GroupGives}
+use Rattle.results.specs.Grouping.{Stored}
+use Rattle.results.specs.Calls.{writeTold, Writes, told as readTold, figures as readFigures}
+use Rattle.results.specs.declared.writer.WriteAnswer.{WriteAnswer}
+use Rattle.results.specs.declared.reader.ReadAnswer.{ReadAnswer}
 use Rattle.sums.specs.Sums.{zero32}
-use Rattle.exports.specs.Exports.{codeOf, figureOf, Gave, labelRefusal, placementOf, labelBy, labelCall, closureRefusal, closureBytesCall, closureWritten, LabelsGave, KMeansGave, GroupGave}
-use Rattle.sums.proofs.Fronts.{flat-append}
+use Rattle.exports.specs.Exports.{codeOf, figureOf, Gave, labelRefusal, placementOf, labelBy, labelCall, closureRefusal, closureBytesCall, closureWritten, LabelsGave, KMeansGave, GroupGave, WriteGave, NumbersGave}
+use Rattle.sums.proofs.Fronts.{flat-length}
 
 -- ---- cells as bytes
--- the first two bytes past a front
-front-two : (r : List ℕ) (at a b : ℕ) (rest : List ℕ) → at ≤ length r → take (at + 2) (take at r ++ (a ∷ b ∷ rest)) ≡ take at r ++ (a ∷ b ∷ [])
-front-two r at a b rest h =
-    rw (← append-assoc (take at r) (a ∷ b ∷ []) rest)
-    (take-at (take at r ++ (a ∷ b ∷ [])) rest (at + 2) (simp length-append (omega (arith, length-take-le at r h))))
-
-module _ (cells r r′ : List ℕ) (i : ℕ) (done : take (i * 2) r ≡ flatMap bytes16 (take i cells)) (room : i * 2 + 2 ≤ length r) where
-  pub cells-more : i < length cells → r′ ≡ take (i * 2) r ++ (bytes16 (getD cells i 0) ++ drop (i * 2 + 2) r)
-      → take ((i + 1) * 2) r′ ≡ flatMap bytes16 (take (i + 1) cells)
-  unfolding flatMap
-  cells-more h e =
-      let n : (i + 1) * 2 ≡ i * 2 + 2 = omega arith in
-      rw (n, e, add-one i, take-suc cells i 0 h, flat-append bytes16 (take i cells) (getD cells i 0 ∷ []), ← done)
-      (front-two r (i * 2) (getD cells i 0 % 256) (getD cells i 0 / 256) (drop (i * 2 + 2) r) (omega arith))
-
-  pub cells-last : (n : ℕ) → length cells ≤ i → length r ≤ i * 2 + 2 → r′ ≡ take (i * 2) r ++ (bytes16 n ++ drop (i * 2 + 2) r)
-      → r′ ≡ flatMap bytes16 cells ++ bytes16 n
-  cells-last n h k e = e ∙ rw (done, take-all i cells h, drop-of-length-le r {i = i * 2 + 2} k)
+-- one number more behind the cells, up to the end
+pub cells-last : (cells r r′ : List ℕ) (n : ℕ) → length r ≡ length cells * 2 + 2 → r′ ≡ take (length cells * 2) (flatMap bytes16 cells ++ drop (length cells * 2) r)
+    ++ (bytes16 n ++ drop (length cells * 2 + 2) (flatMap bytes16 cells ++ drop (length cells * 2) r)) → r′ ≡ flatMap bytes16 cells ++ bytes16 n
+cells-last cells r r′ n long e =
+    let front = flat-length bytes16 2 (λ x. refl) cells in
+    let few : length (flatMap bytes16 cells ++ drop (length cells * 2) r) ≤ length cells * 2 + 2 = rw length-append (omega (arith, front, length-drop (length cells * 2) r, long)) in
+    e ∙ rw (take-at (flatMap bytes16 cells) (drop (length cells * 2) r) (length cells * 2) front, drop-of-length-le (flatMap bytes16 cells ++ drop (length cells * 2) r) {i = length cells * 2 + 2} few)
 
 -- ---- from an answer to its number and bytes
 -- an answer that tells less of an acceptance has the same number, and each of its figures is one of the whole
@@ -238,3 +230,17 @@ group-gave dim rows orderCells endCells meanCells r order ends means answer numb
     let splits = f .1 .0 ∙ same-figure figures 0 (λ (p : ℕ × ℕ × ℕ). p .1) answer _ (g .result) in
     let unplaced = f .1 .1 ∙ same-figure figures 0 (λ (p : ℕ × ℕ × ℕ). p .2) answer _ (g .result) in
     (c ∙ same-code figures answer _ (g .result), (g .ordered, (g .ended, (g .meant, (groups, (splits, unplaced))))))
+
+-- ---- the result file: from the enums to the number, the figures and the cells
+pub write-gave : (answer : Answer (List ℕ)) (n : ℕ) (r : WriteAnswer) (file : List ℕ) (number : ℕ) → Writes answer n r file → number ≡ codeOf (writeTold r) → WriteGave answer n number file
+write-gave answer n r file number g c = (c ∙ same-code (λ (bytes : List ℕ). tt) answer _ (g .result), g .bytes)
+
+pub numbers-gave : (answer : Answer Stored) (r : ReadAnswer) (number n d k : ℕ) → readTold r ≡ onAccepted readFigures answer → number ≡ codeOf (readTold r)
+    → (n ≡ figureOf 0 (λ (f : ℕ × ℕ × ℕ). f .0) (readTold r))
+    × ((d ≡ figureOf 0 (λ (f : ℕ × ℕ × ℕ). f .1) (readTold r)) × (k ≡ figureOf 0 (λ (f : ℕ × ℕ × ℕ). f .2) (readTold r)))
+    → NumbersGave answer number n d k
+numbers-gave answer r number n d k e c f =
+    let rows = f .0 ∙ same-figure readFigures 0 (λ (p : ℕ × ℕ × ℕ). p .0) answer _ e in
+    let dim = f .1 .0 ∙ same-figure readFigures 0 (λ (p : ℕ × ℕ × ℕ). p .1) answer _ e in
+    let groups = f .1 .1 ∙ same-figure readFigures 0 (λ (p : ℕ × ℕ × ℕ). p .2) answer _ e in
+    (c ∙ same-code readFigures answer _ e, (rows, (dim, groups)))

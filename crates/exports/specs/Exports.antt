@@ -19,6 +19,7 @@ use Rattle.kmeans.specs.declared.config.KMeansConfig.{KMeansConfig}
 use Rattle.kmeans.specs.KMeans.{Result}
 use Rattle.grouping.specs.declared.config.GroupingConfig.{GroupingConfig}
 use Rattle.grouping.specs.Groups.{Groups, endsFrom, meanOf}
+use Rattle.results.specs.Grouping.{Stored}
 
 -- what is returned: 0, or the refusal's number
 unfoldable pub codeOf : {A : Type 0} → Answer A → ℕ
@@ -105,3 +106,22 @@ GroupGave answer dim rows orderCells endCells meanCells r order ends means group
     × ((means ≡ cellsOf zero32 meanCells (λ (g : Groups). flatMap (meanOf dim rows) (g .groups)) answer)
     × ((groups ≡ figureOf 0 (λ (g : Groups). length (g .groups)) answer) × ((splits ≡ figureOf 0 (λ (g : Groups). g .splits) answer)
     × (unplaced ≡ figureOf 0 (λ (g : Groups). g .unplaced) answer))))))
+
+-- ---- the result file (02 (vi))
+-- the writer's whole result: its number, and the n bytes, which are the file, and zeros after a refusal
+abbrev pub WriteGave : Answer (List ℕ) → ℕ → ℕ → List ℕ → Type 0
+WriteGave answer n r file = (r ≡ codeOf answer) × (file ≡ cellsOf 0 n (λ (bytes : List ℕ). bytes) answer)
+
+-- a reading's number, and rows, dim and groups, 0 after a refusal
+abbrev pub NumbersGave : Answer Stored → ℕ → ℕ → ℕ → ℕ → Type 0
+NumbersGave answer r rows dim groups =
+    (r ≡ codeOf answer)
+    × ((rows ≡ figureOf 0 (λ (g : Stored). g .rows) answer)
+    × ((dim ≡ figureOf 0 (λ (g : Stored). g .dim) answer) × (groups ≡ figureOf 0 (λ (g : Stored). g .groups) answer)))
+
+-- the reader's whole result: these, and the three result slices, means as their bits
+abbrev pub ReadGave : Answer Stored → ℕ → ℕ → ℕ → ℕ → List ℕ → List ℕ → List ℕ → ℕ → ℕ → ℕ → Type 0
+ReadGave answer orderCells endCells meanCells r order ends means rows dim groups =
+    NumbersGave answer r rows dim groups
+    × ((order ≡ cellsOf blankCell orderCells (λ (g : Stored). g .order) answer)
+    × ((ends ≡ cellsOf blankCell endCells (λ (g : Stored). g .ends) answer) × (means ≡ cellsOf 0 meanCells (λ (g : Stored). g .means) answer)))

@@ -14,18 +14,8 @@ use closure::call::ClosureAnswer;
 use labels::call;
 use labels::call::LabelAnswer;
 use labels::mode::Mode;
+use sums::cells;
 use sums::checks;
-
-// 255 in every byte.
-fn fill(result: &mut [u8])
-    ensures { λ _. ⌜ now (result .exit) ≡ replicate (length (now (result .entry))) 255 ⌝ }
-{
-    let mut i = 0usize;
-    while i < result.len() {
-        result[i] = 255;
-        i += 1;
-    }
-}
 
 // 2: a slice has not its number of bytes; the numbers are in range, and the result is to have `wanted`.
 fn lengths_fit(
@@ -65,12 +55,9 @@ fn put_cells(cells: &[u16], n: u16, result: &mut [u8])
     requires { ⌜ length (now result) ≡ length (now cells) * 2 + 2 ⌝ }
     ensures { λ _. ⌜ now (result .exit) ≡ flatMap bytes16 (now (cells .entry)) ++ bytes16 n ⌝ }
 {
-    let mut i = 0usize;
-    while i < cells.len() {
-        words::put_u16(result, i * 2, cells[i]);
-        i += 1;
-    }
-    words::put_u16(result, i * 2, n);
+    let at = cells.len() * 2;
+    words::put_halves(cells, &mut result[..at]);
+    words::put_u16(result, at, n);
 }
 
 // What is left of a call whose lengths fit, with room for the floats and the cells.
@@ -121,7 +108,7 @@ pub extern "C" fn families_closure(
         let answer = closureBytesCall epsilon «max_replicas» dim count (now (vector .entry)) (now (centroids .entry)) n in
         Gave answer n (closureWritten count) r (now (result .exit))) ⌝ }
 {
-    fill(result);
+    cells::fill_bytes(result, 255);
     let d = dim as usize;
     let k = count as usize;
     let number = closure_refusal(dim, count, vector.len(), centroids.len(), result.len());
@@ -195,7 +182,7 @@ fn label_in(mode: Mode, dim: u32, k: u32, row: &[u8], centroids: &[u8], result: 
     ensures { λ r. ⌜ (let n = length (now (result .entry)) in
         Gave (labelCall mode dim k (now (row .entry)) (now (centroids .entry)) n) n bytes16 r (now (result .exit))) ⌝ }
 {
-    fill(result);
+    cells::fill_bytes(result, 255);
     let d = dim as usize;
     let n = k as usize;
     let number = label_refusal(dim, k, row.len(), centroids.len(), result.len());

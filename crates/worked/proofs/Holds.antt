@@ -1,8 +1,12 @@
 -- Every line of the table holds, by computing.
 use mathlib.Core.Path.{refl}
-use lib.Ieee.{ofBits}
+use lib.Ieee.{ofBits, toBits}
 use Rattle.words.specs.Bytes.{numberOf}
-use Rattle.grouping.specs.Groups.{splitFrom}
+use Rattle.grouping.specs.Groups.{splitFrom, endsFrom}
+use Rattle.sums.specs.Refusals.{padded}
+use Rattle.results.specs.Grouping.{allPass, timesIn, eachOnce, rising, numbersFit, contentFits, sound}
+use Rattle.results.specs.Files.{written, storedAt, storedIn, isResult, reads}
+use Rattle.results.specs.Calls.{writeRefusal, writeCall}
 use Rattle.batch.specs.Shape.{trailerAt, fitsFile, shapeOf}
 use Rattle.batch.specs.Listing.{placesFrom, decimal, rowNumbers, groupLine, listing}
 use Rattle.batch.specs.Batch.{answerBy}
@@ -11,10 +15,13 @@ use Rattle.worked.proofs.Opened.{opened}
 use Rattle.worked.proofs.Settled.{P1-parts, P1-lost, P2-parts, P2-lost, P2-refused, split-lost, P10-settles, shape-parts, shape-lost, far-parts, far-lost, unit-settles}
 
 pub table-holds : Table
-unfolding opened splitFrom ofBits numberOf trailerAt fitsFile shapeOf placesFrom decimal rowNumbers groupLine listing answerBy
+unfolding opened splitFrom endsFrom ofBits toBits padded allPass timesIn eachOnce rising numbersFit contentFits sound written storedAt storedIn isResult reads writeRefusal writeCall numberOf trailerAt fitsFile shapeOf placesFrom decimal rowNumbers groupLine listing answerBy
 table-holds = record {
   P1 = rw (P1-parts, P1-lost);
   P1-listing = rw (P1-parts, P1-lost);
+  P1-written = refl;
+  P1-read = refl;
+  P1-twice = refl;
   no-bytes = refl;
   P2 = rw (P2-refused 3 0);
   P2-balanced = rw (P2-parts, P2-lost half 0);

@@ -2,13 +2,14 @@
 -- Every side is computed, down to single operations of IEEE 754.
 use mathlib.Core.Path.{_≡_}
 use mathlib.Core.Bool.{Bool, true, false}
-use mathlib.Core.List.{List, [], _∷_}
+use mathlib.Core.List.{List, [], _∷_, map, flatten, flatMap}
 use Prim.Native.Nat.{ℕ}
 use lib.IntN.{pos, negsuc}
-use lib.ListN.{length, replicate}
-use lib.Ieee.{Float, fin, nan}
+use lib.ListN.{length, drop, replicate}
+use lib.Ieee.{Float, binary32, fin, nan, toBits}
 use Rattle.sums.specs.Sums.{zero32, one32, two32, count32}
-use Rattle.sums.specs.Refusals.{Answer, accepted, refused, onAccepted}
+use Rattle.sums.specs.Rows.{rowsFrom}
+use Rattle.sums.specs.Refusals.{Answer, accepted, refused, onAccepted, padded, blankCell}
 use Rattle.labels.specs.declared.mode.Mode.{Mode}
 use Rattle.labels.specs.declared.mode.Mode.the-variants.{Strict, OldWay}
 use Rattle.labels.specs.declared.nearest.Placement.the-variants.{Unplaced}
@@ -20,8 +21,11 @@ use Rattle.kmeans.specs.Call.{lengthsOf as KMeans·lengthsOf, kmeansCall}
 use Rattle.closure.specs.Call.{closureCall}
 use Rattle.grouping.specs.Parts.{sizesOf}
 use Rattle.grouping.specs.Balance.{share, allowed, balance, moves, toward}
-use Rattle.grouping.specs.Groups.{Groups}
+use Rattle.grouping.specs.Groups.{Groups, endsFrom, meanOf}
 use Rattle.grouping.specs.Call.{lengthsOf, groupingCall}
+use Rattle.results.specs.Grouping.{Stored, stored}
+use Rattle.results.specs.Files.{reads}
+use Rattle.results.specs.Calls.{writeCall}
 use Rattle.batch.specs.Batch.{listingOf}
 
 -- `fin false m e` is m·2^e, and `fin true m e` its opposite; `negsuc n` is the exponent -(n + 1)
@@ -50,6 +54,19 @@ usualOn = record { niter = 25; nredo = 1; spherical = true; «max_points_per_cen
 abbrev pub grouped : List (List ℕ) → ℕ → Answer Groups
 grouped groups splits = accepted (record { groups = groups; splits = splits; unplaced = 0 })
 
+-- groups of rows of one reading as a grouping call leaves them, the means as their bits (02 (vi))
+abbrev left : List Float → List (List ℕ) → Stored
+left values groups =
+    let n = length values in
+    stored n 1 (length groups) (padded blankCell n (flatten groups)) (padded blankCell n (endsFrom 0 groups))
+    (padded 0 n (map (toBits binary32) (flatMap (meanOf 1 (rowsFrom 1 n values)) groups)))
+
+-- P1's: row numbers 2 3 0 1; ends 2 4; means 10.5 0.5; then 0 8 12, where each block starts, and 4 rows of 1 reading in 2 groups
+abbrev pub P1-bytes : List ℕ
+P1-bytes =
+    2 ∷ 0 ∷ 3 ∷ 0 ∷ 0 ∷ 0 ∷ 1 ∷ 0 ∷ 2 ∷ 0 ∷ 4 ∷ 0 ∷ 0 ∷ 0 ∷ 40 ∷ 65 ∷ 0 ∷ 0 ∷ 0 ∷ 63
+    ∷ 0 ∷ 0 ∷ 0 ∷ 0 ∷ 8 ∷ 0 ∷ 0 ∷ 0 ∷ 12 ∷ 0 ∷ 0 ∷ 0 ∷ 4 ∷ 0 ∷ 0 ∷ 0 ∷ 1 ∷ 0 ∷ 0 ∷ 0 ∷ 2 ∷ 0 ∷ 0 ∷ 0 ∷ []
+
 -- the labels that a labelling of one row of one reading against two centroids gives
 abbrev labels : Mode → Float → Float → Float → Answer (List ℕ)
 labels mode reading first second = onAccepted labelsOf (labelCall mode 1 1 2 (reading ∷ []) (first ∷ second ∷ []) 1 1)
@@ -60,6 +77,11 @@ pub record Table : Type 0 where
   pub P1-listing : listingOf (0 ∷ 0 ∷ 0 ∷ 0 ∷ 0 ∷ 0 ∷ 128 ∷ 63 ∷ 0 ∷ 0 ∷ 32 ∷ 65 ∷ 0 ∷ 0 ∷ 48 ∷ 65 ∷ 0 ∷ 0 ∷ 0 ∷ 0
       ∷ 0 ∷ 0 ∷ 0 ∷ 0 ∷ 16 ∷ 0 ∷ 0 ∷ 0 ∷ 4 ∷ 0 ∷ 0 ∷ 0 ∷ 1 ∷ 0 ∷ 0 ∷ 0 ∷ 1 ∷ 0 ∷ 0 ∷ 0 ∷ 2 ∷ 0 ∷ 0 ∷ 0 ∷ 2 ∷ 0 ∷ 0 ∷ 0 ∷ 0 ∷ 0 ∷ 0 ∷ 0 ∷ 4 ∷ 0 ∷ 0 ∷ 0 ∷ [])
       ≡ 97 ∷ 99 ∷ 99 ∷ 101 ∷ 112 ∷ 116 ∷ 101 ∷ 100 ∷ 32 ∷ 103 ∷ 114 ∷ 111 ∷ 117 ∷ 112 ∷ 115 ∷ 32 ∷ 50 ∷ 32 ∷ 115 ∷ 112 ∷ 108 ∷ 105 ∷ 116 ∷ 115 ∷ 32 ∷ 49 ∷ 10 ∷ 50 ∷ 58 ∷ 32 ∷ 50 ∷ 32 ∷ 51 ∷ 10 ∷ 50 ∷ 58 ∷ 32 ∷ 48 ∷ 32 ∷ 49 ∷ 10 ∷ []
+  -- its grouping as a result file, written and read (02 (vi))
+  pub P1-written : writeCall (left (zero32 ∷ one32 ∷ count32 10 ∷ count32 11 ∷ []) ((2 ∷ 3 ∷ []) ∷ (0 ∷ 1 ∷ []) ∷ [])) 44 ≡ accepted P1-bytes
+  pub P1-read : reads P1-bytes ≡ accepted (left (zero32 ∷ one32 ∷ count32 10 ∷ count32 11 ∷ []) ((2 ∷ 3 ∷ []) ∷ (0 ∷ 1 ∷ []) ∷ []))
+  -- the same with its last row number 0, so that row 1 is missing
+  pub P1-twice : reads (2 ∷ 0 ∷ 3 ∷ 0 ∷ 0 ∷ 0 ∷ 0 ∷ 0 ∷ drop 8 P1-bytes) ≡ refused 10
   -- a file of no bytes: `refused 8`
   pub no-bytes : listingOf [] ≡ 114 ∷ 101 ∷ 102 ∷ 117 ∷ 115 ∷ 101 ∷ 100 ∷ 32 ∷ 56 ∷ 10 ∷ []
   -- five readings of 3

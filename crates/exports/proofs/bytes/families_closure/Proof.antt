@@ -12,8 +12,8 @@ use Rattle.exports.proofs.bytes.families_closure.Statement.{statement}
 use Rattle.exports.proofs.bytes.families_closure.Tie as tie
 
 -- the result bytes are 255 after `fill`, and as many as they were
-filled : (c : tie.After-fill) → (length (c .fill .last .0) ≡ length (c .before .before .before .before .before .args .result .now)) × (c .fill .last .0 ≡ replicate (length (c .before .before .before .before .before .args .result .now)) 255)
-filled c = (ap length (c .fill .ensures) ∙ length-replicate _ 255, c .fill .ensures)
+filled : (c : tie.After-fill-bytes) → (length (c .fill-bytes .last .0) ≡ length (c .before .before .before .before .before .args .result .now)) × (c .fill-bytes .last .0 ≡ replicate (length (c .before .before .before .before .before .args .result .now)) 255)
+filled c = (ap length (c .fill-bytes .ensures) ∙ length-replicate _ 255, c .fill-bytes .ensures)
 
 asked : (c : tie.After-closure-refusal)
     → let a = c .before .before .before .before .before .before .before .before .args in c .closure-refusal .result ≡ closureRefusal (a .dim) (a .count) (length (a .vector .now)) (length (a .centroids .now)) (length (a .result .now))
@@ -26,8 +26,8 @@ fits c = let a = c .before .before .before .before .before .before .before .befo
 cells-fit : (c : tie.Else1) → c .before .before .before .before .before .before .before .before .before .args .count * c .before .before .before .before .before .before .before .before .before .args .dim ≤ 4096
 cells-fit c = mul-le-mul (fits c .few) (fits c .small)
 
-fill-requires : tie.Need-fill-requires
-fill-requires c κs = search needs
+fill-bytes-requires : tie.Need-fill-bytes-requires
+fill-bytes-requires c κs = search needs
 
 closure-refusal-requires : tie.Need-closure-refusal-requires
 closure-refusal-requires c κs = search needs
@@ -88,7 +88,7 @@ pub families-closure-spec : {M : Type 1} → statement M
 families-closure-spec =
     tie.close
     (tie.spec
-    fill-requires
+    fill-bytes-requires
     closure-refusal-requires
     same-length
     returns

@@ -13,8 +13,8 @@ use Rattle.exports.proofs.bytes.label_in.Statement.{statement}
 use Rattle.exports.proofs.bytes.label_in.Tie as tie
 
 -- the result bytes are 255 after `fill`, and as many as they were
-filled : (c : tie.After-fill) → (length (c .fill .last .0) ≡ length (c .before .before .before .before .before .args .result .now)) × (c .fill .last .0 ≡ replicate (length (c .before .before .before .before .before .args .result .now)) 255)
-filled c = (ap length (c .fill .ensures) ∙ length-replicate _ 255, c .fill .ensures)
+filled : (c : tie.After-fill-bytes) → (length (c .fill-bytes .last .0) ≡ length (c .before .before .before .before .before .args .result .now)) × (c .fill-bytes .last .0 ≡ replicate (length (c .before .before .before .before .before .args .result .now)) 255)
+filled c = (ap length (c .fill-bytes .ensures) ∙ length-replicate _ 255, c .fill-bytes .ensures)
 
 -- the number is the definition's, of the lengths at entry
 asked : (c : tie.After-label-refusal)
@@ -28,8 +28,8 @@ fits c = let a = c .before .before .before .before .before .before .before .befo
 cells-fit : (c : tie.Else1) → c .before .before .before .before .before .before .before .before .before .args .k * c .before .before .before .before .before .before .before .before .before .args .dim ≤ 4096
 cells-fit c = mul-le-mul (fits c .few) (fits c .small)
 
-fill-requires : tie.Need-fill-requires
-fill-requires c κs = search needs
+fill-bytes-requires : tie.Need-fill-bytes-requires
+fill-bytes-requires c κs = search needs
 
 label-refusal-requires : tie.Need-label-refusal-requires
 label-refusal-requires c κs = search needs
@@ -86,7 +86,7 @@ pub label-in-spec : {M : Type 1} → statement M
 label-in-spec =
     tie.close
     (tie.spec
-    fill-requires
+    fill-bytes-requires
     label-refusal-requires
     same-length
     returns

@@ -1,0 +1,11 @@
+pub mod Tests
+pub mod Pads
+pub mod Sounds
+pub mod Files
+pub mod Puts
+pub mod Answers
+pub mod Promises
+pub mod Accepteds
+pub mod Groupings
+pub mod CallPromises
+pub mod Readables
