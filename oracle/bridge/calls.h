@@ -8,7 +8,7 @@ typedef __UINT64_TYPE__ uint64_t;
 typedef __UINTPTR_TYPE__ uintptr_t;
 typedef __SIZE_TYPE__ size_t;
 
-enum { LABEL, CLOSURE, LABEL_ROWS, PLACE_ROWS, KMEANS, GROUP, LIST, ROOT };
+enum { LABEL, CLOSURE, LABEL_ROWS, PLACE_ROWS, KMEANS, GROUP, LIST, ROOT, WRITE_RESULT, RESULT_NUMBERS, READ_RESULT };
 // Which of a function's two ways is called; one that has no old way is strict.
 enum { STRICT, OLD_WAY };
 enum { NUMBERS = 8, MOST_SLICES = 10 };

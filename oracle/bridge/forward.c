@@ -156,3 +156,22 @@ uint32_t families_list(SLICE(const uint8_t, file), SLICE(uint8_t, text)) {
     struct lent lent[] = {READ(file), WRITTEN(text)};
     FORWARD(LIST, STRICT, 0);
 }
+
+uint32_t families_write_result(uint32_t rows, uint32_t dim, uint32_t groups, SLICE(const uint16_t, order), SLICE(const uint16_t, ends),
+                               SLICE(const uint32_t, means), SLICE(uint8_t, file)) {
+    struct lent lent[] = {READ(order), READ(ends), READ(means), WRITTEN(file)};
+    FORWARD(WRITE_RESULT, STRICT, rows, dim, groups);
+}
+
+uint32_t families_result_numbers(SLICE(const uint8_t, file), uint32_t *rows, uint32_t *dim, uint32_t *groups) {
+    struct lent lent[] = {READ(file), FIGURE(rows), FIGURE(dim), FIGURE(groups)};
+    FORWARD(RESULT_NUMBERS, STRICT, 0);
+}
+
+uint32_t families_read_result(SLICE(const uint8_t, file), SLICE(uint16_t, order), SLICE(uint16_t, ends), SLICE(uint32_t, means),
+                              uint32_t *rows, uint32_t *dim, uint32_t *groups) {
+    struct lent lent[] = {
+        READ(file), WRITTEN(order), WRITTEN(ends), WRITTEN(means), FIGURE(rows), FIGURE(dim), FIGURE(groups),
+    };
+    FORWARD(READ_RESULT, STRICT, 0);
+}

@@ -138,6 +138,9 @@ TWO_WAYS(families_group, uint32_t, uint32_t, uint32_t, uint32_t, float, uint32_t
          uint32_t *, uint32_t *, TWO, TWO);
 float families_root(float);
 uint32_t families_list(TWO, TWO);
+uint32_t families_write_result(uint32_t, uint32_t, uint32_t, TWO, TWO, TWO, TWO);
+uint32_t families_result_numbers(TWO, uint32_t *, uint32_t *, uint32_t *);
+uint32_t families_read_result(TWO, TWO, TWO, TWO, uint32_t *, uint32_t *, uint32_t *);
 
 static uint32_t call(uint32_t which, uint32_t way, const uint32_t *n) {
 #define ASKED(name) (way == OLD_WAY ? name##_old_way : name)
@@ -157,6 +160,12 @@ static uint32_t call(uint32_t which, uint32_t way, const uint32_t *n) {
         return families_list(SLICE(0), SLICE(1));
     case ROOT:
         return bits_of(families_root(float_of(n[0])));
+    case WRITE_RESULT:
+        return families_write_result(n[0], n[1], n[2], SLICE(0), SLICE(1), SLICE(2), SLICE(3));
+    case RESULT_NUMBERS:
+        return families_result_numbers(SLICE(0), FIGURE(1), FIGURE(2), FIGURE(3));
+    case READ_RESULT:
+        return families_read_result(SLICE(0), SLICE(1), SLICE(2), SLICE(3), FIGURE(4), FIGURE(5), FIGURE(6));
     default:
         return ASKED(families_group)(n[0], n[1], n[2], n[3], float_of(n[4]), n[5], n[6], SLICE(0), SLICE(1), SLICE(2), SLICE(3), SLICE(4),
                                      FIGURE(5), FIGURE(6), FIGURE(7), SLICE(8), SLICE(9));

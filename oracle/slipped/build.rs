@@ -11,7 +11,7 @@ struct Slip {
     edits: &'static [(&'static str, usize, &'static str)],
 }
 
-const SLIPS: [Slip; 29] = [
+const SLIPS: [Slip; 37] = [
     // Scores are squared differences instead of the norm formula.
     Slip {
         name: "squared_differences",
@@ -387,6 +387,80 @@ const SLIPS: [Slip; 29] = [
                 }
                 part
             })",
+        )],
+    },
+    // Request (vi): an end may be that of the group before, so that a size may be zero.
+    Slip {
+        name: "equal_ends",
+        file: "results.rs",
+        edits: &[("if end <= last {", 1, "if end < last {")],
+    },
+    // Request (vi): ends rise, to whatever they come.
+    Slip {
+        name: "last_end_free",
+        file: "results.rs",
+        edits: &[("u32::from(last) == rows", 1, "u32::from(last) <= 65_535")],
+    },
+    // Request (vi): -0.0 is blank too, as a float that is compared with 0.0.
+    Slip {
+        name: "negative_zero_blank",
+        file: "results.rs",
+        edits: &[(
+            "|&bits| bits == BLANK_BITS",
+            1,
+            "|&bits| f32::from_bits(bits) == f32::from_bits(BLANK_BITS)",
+        )],
+    },
+    // Request (vi): the reader looks at lengths as soon as it knows the numbers.
+    Slip {
+        name: "two_before_ten",
+        file: "results.rs",
+        edits: &[(
+            "let found = sound(file)?;",
+            1,
+            "lent.check_lengths(&shaped(file)?.numbers)?;
+    let found = sound(file)?;",
+        )],
+    },
+    // Request (vi): row numbers are written before the rest is looked at.
+    Slip {
+        name: "half_written",
+        file: "results.rs",
+        edits: &[(
+            "cells.check_content(numbers)?;",
+            1,
+            "put(file, cells.order.iter().map(|row| row.to_le_bytes()));
+    cells.check_content(numbers)?;",
+        )],
+    },
+    // Request (vi): a row may be listed twice, in the place of another.
+    Slip {
+        name: "row_twice",
+        file: "results.rs",
+        edits: &[(
+            "!std::mem::replace(seen, true)",
+            1,
+            "!std::mem::replace(seen, false)",
+        )],
+    },
+    // Request (vi): all NaN means become one, as where they travel as floats that are compared.
+    Slip {
+        name: "one_nan",
+        file: "results.rs",
+        edits: &[(
+            "|bits| bits.to_le_bytes()",
+            1,
+            "|&bits| crate::cases::float_bits(f32::from_bits(bits)).to_le_bytes()",
+        )],
+    },
+    // Request (vi): the numbers of a file are told by its shape alone.
+    Slip {
+        name: "numbers_by_shape",
+        file: "results.rs",
+        edits: &[(
+            "sound(file).map(|found| found.numbers)",
+            1,
+            "shaped(file).map(|found| found.numbers)",
         )],
     },
 ];

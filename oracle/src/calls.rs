@@ -41,7 +41,7 @@ pub const SPLIT_BUDGET: Range = range(0, 8_192);
 pub const DRAW_COUNT: Range = range(1, 4_096);
 
 /// 1, given before any length is looked at, so that products of the numbers stay small.
-fn check_ranges(numbers: &[(u32, Range)]) -> Result<(), Refusal> {
+pub(crate) fn check_ranges(numbers: &[(u32, Range)]) -> Result<(), Refusal> {
     let all_in = numbers
         .iter()
         .all(|&(number, range)| range.low <= number && number <= range.high);
@@ -49,7 +49,7 @@ fn check_ranges(numbers: &[(u32, Range)]) -> Result<(), Refusal> {
 }
 
 /// 2: each pair is a length and what it must be.
-fn check_lengths(lengths: &[(usize, u32)]) -> Result<(), Refusal> {
+pub(crate) fn check_lengths(lengths: &[(usize, u32)]) -> Result<(), Refusal> {
     let all_fit = lengths
         .iter()
         .all(|&(length, exact)| length == exact as usize);

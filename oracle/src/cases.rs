@@ -16,6 +16,9 @@ mod grouping;
 mod kmeans;
 mod labelling;
 mod placing;
+mod result_files;
+mod result_trips;
+mod results;
 mod scales;
 mod spherical;
 mod unplaced;
@@ -28,6 +31,9 @@ pub use grouping::{GroupingCase, GroupingOutcome};
 pub use kmeans::{KMeansCase, KMeansOutcome, RestartsCase};
 pub use labelling::{LabelCase, LabelOutcome};
 pub use placing::{PlaceCase, PlaceOutcome};
+pub use result_files::{ReadOutcome, ReadResultCase, ResultNumbersCase};
+pub use result_trips::{ResultTripCase, TripOutcome};
+pub use results::{WriteOutcome, WriteResultCase};
 pub use spherical::{SphericalCase, SphericalGroupingCase, ON, SHOWS};
 
 pub trait Case: Debug + Sized {
@@ -71,6 +77,7 @@ pub trait TwoWays: Case {
 pub const STALE_CELL: u16 = 0x1234;
 pub const STALE_FLOAT: f32 = -7.25;
 pub const STALE_BYTE: u8 = 0x5a;
+pub const STALE_BITS: u32 = 0x5a5a_1234;
 
 /// NaN results are compared as NaN: all their bits become the same.
 pub fn float_bits(value: f32) -> u32 {

@@ -6,8 +6,9 @@
 //! names, in their order and with their order of steps, so that both can be held side by side
 //! (docs/DIFFERENCES.md has the table); what the source does not have stands at their ends. `draws`
 //! stands for the generator. `calls` puts the refusals and blank cells of document 01 on top, and
-//! `batch` the file and its listing. `cases` makes the inputs that another implementation is
-//! compared on; the package `slipped` has the wrong versions that those inputs must tell apart.
+//! `batch` the file and its listing; `results` has the result file of document 02. `cases` makes the
+//! inputs that another implementation is compared on; the package `slipped` has the wrong versions
+//! that those inputs must tell apart.
 
 pub mod batch;
 pub mod calls;
@@ -19,3 +20,4 @@ pub mod kmeans;
 pub mod math;
 pub mod random;
 pub mod refusal;
+pub mod results;

@@ -13,10 +13,11 @@ pub enum Refusal {
     BudgetSpent = 7,
     FileShape = 8,
     UnplacedRow = 9,
+    ResultFile = 10,
 }
 
 impl Refusal {
-    pub const ALL: [Refusal; 9] = [
+    pub const ALL: [Refusal; 10] = [
         Refusal::OutOfRange,
         Refusal::WrongLength,
         Refusal::KAboveRows,
@@ -26,6 +27,7 @@ impl Refusal {
         Refusal::BudgetSpent,
         Refusal::FileShape,
         Refusal::UnplacedRow,
+        Refusal::ResultFile,
     ];
 
     pub fn number(self) -> u32 {

@@ -5,8 +5,8 @@ use std::collections::BTreeMap;
 use oracle::calls::{label_bytes, BLANK_CELL};
 use oracle::cases::{
     BatchCase, Case, ClosureBytesCase, ClosureCase, GroupingCase, GroupingOutcome, KMeansCase,
-    LabelBytesCase, LabelCase, PlaceCase, RestartsCase, SphericalCase, SphericalGroupingCase,
-    TwoWays, ON, SHOWS,
+    LabelBytesCase, LabelCase, PlaceCase, ReadResultCase, RestartsCase, ResultNumbersCase,
+    ResultTripCase, SphericalCase, SphericalGroupingCase, TwoWays, WriteResultCase, ON, SHOWS,
 };
 use oracle::refusal::Mode;
 
@@ -121,6 +121,14 @@ fn every_refusal_of_the_program_is_met() {
     assert_met::<BatchCase>(&[0, 1, 4, 6, 7, 8, 9]);
 }
 
+#[test]
+fn every_refusal_of_a_result_file_is_met() {
+    assert_met::<WriteResultCase>(&[0, 1, 2, 10]);
+    assert_met::<ReadResultCase>(&[0, 2, 10]);
+    assert_met::<ResultNumbersCase>(&[0, 10]);
+    assert_met::<ResultTripCase>(&[0]);
+}
+
 fn assert_repeatable<C: Case>() {
     for index in 0..60 {
         let (once, again) = (C::generate(SEED, index), C::generate(SEED, index));
@@ -141,6 +149,10 @@ fn a_seed_and_an_index_name_a_case() {
     assert_repeatable::<LabelBytesCase>();
     assert_repeatable::<ClosureBytesCase>();
     assert_repeatable::<BatchCase>();
+    assert_repeatable::<WriteResultCase>();
+    assert_repeatable::<ReadResultCase>();
+    assert_repeatable::<ResultNumbersCase>();
+    assert_repeatable::<ResultTripCase>();
 }
 
 fn blank(cells: &[u16]) -> bool {
@@ -184,6 +196,13 @@ fn a_refusal_leaves_only_blanks() {
         let outcome = case.run();
         assert!(outcome.number == 0 || outcome.result.iter().all(|&byte| byte == 255));
     }
+    for outcome in all::<WriteResultCase>().map(|case| case.run()) {
+        assert!(outcome.answer.is_ok() || outcome.file.iter().all(|&byte| byte == 0));
+    }
+    for outcome in all::<ReadResultCase>().map(|case| case.run()) {
+        let blanks = blank(&outcome.order) && blank(&outcome.ends) && zero(&outcome.means);
+        assert!(outcome.answer.is_ok() || blanks);
+    }
 }
 
 /// Each row once, each group of 1 to limit rows, and blanks where there are no more groups.
@@ -212,6 +231,65 @@ fn an_accepted_grouping_holds_each_row_once() {
             assert!(accepted.splits <= case.numbers.budget);
         } else {
             assert!(blank(&outcome.order) && blank(&outcome.ends) && zero(&outcome.means));
+        }
+    }
+}
+
+/// Request (vi) of document 02: a grouping comes back, and so do the bytes of a file.
+#[test]
+fn results_come_back() {
+    for case in all::<ResultTripCase>() {
+        assert!(case.comes_back(&case.run()), "{case:?}");
+    }
+    for case in all::<ReadResultCase>() {
+        let outcome = case.run();
+        let told = ResultNumbersCase::from(case.clone()).run();
+        let Ok(numbers) = outcome.answer else {
+            let is_ten = ReadResultCase::number(&outcome) == 10;
+            assert_eq!(told.is_err(), is_ten, "{case:?}");
+            continue;
+        };
+        assert_eq!(told, Ok(numbers));
+        let again = WriteResultCase {
+            numbers,
+            order: outcome.order,
+            ends: outcome.ends,
+            means: outcome.means,
+            file_bytes: case.file.len(),
+            wrong: vec![],
+        };
+        assert_eq!(again.run().file, case.file);
+    }
+}
+
+/// A result case is refused for what was made wrong, and for nothing else.
+#[test]
+fn what_is_made_wrong_is_refused() {
+    let lengths = "another length";
+    for case in (0..CASES).map(|index| WriteResultCase::generate(SEED, index)) {
+        let number = WriteResultCase::number(&case.run());
+        let expected = |wrong: &&str| match *wrong {
+            "rows out of range" | "dim out of range" => 1,
+            "groups above rows in a file of before" | "groups that wrap" => 2,
+            wrong if wrong.starts_with(lengths) => 2,
+            _ => 10,
+        };
+        let first = case.wrong.iter().map(expected).min();
+        assert_eq!(number, first.unwrap_or(0), "{case:?}");
+    }
+    for case in (0..CASES).map(|index| ReadResultCase::generate(SEED, index)) {
+        let number = ReadResultCase::number(&case.run());
+        // A mean that is changed is as good, and so is another dim where there are no rows.
+        let may_be_sound = |wrong: &str| match wrong {
+            "a byte changed" | "a bit changed" => true,
+            "another number" | "other numbers of the same length" => case.mean_cells == 0,
+            _ => false,
+        };
+        match case.wrong[..] {
+            [] => assert_eq!(number, 0, "{case:?}"),
+            [wrong] if wrong.starts_with(lengths) => assert_eq!(number, 2, "{case:?}"),
+            [wrong, ..] if may_be_sound(wrong) => (),
+            _ => assert_eq!(number, 10, "{case:?}"),
         }
     }
 }

@@ -206,6 +206,45 @@ fn the_setting_kept_by_grouping_or_taken_to_the_means() {
     assert_told_apart!(means_normalized, SphericalGroupingCase);
 }
 
+#[test]
+fn ends_alike_or_a_last_one_other_than_rows() {
+    assert_told_apart!(equal_ends, WriteResultCase);
+    assert_told_apart!(equal_ends, ReadResultCase);
+    assert_told_apart!(equal_ends, ResultNumbersCase);
+    assert_told_apart!(last_end_free, WriteResultCase);
+    assert_told_apart!(last_end_free, ReadResultCase);
+    assert_told_apart!(last_end_free, ResultNumbersCase);
+}
+
+#[test]
+fn a_row_twice_in_a_result() {
+    assert_told_apart!(row_twice, WriteResultCase);
+    assert_told_apart!(row_twice, ReadResultCase);
+    assert_told_apart!(row_twice, ResultNumbersCase);
+}
+
+#[test]
+fn negative_zero_as_blank_or_nans_made_one() {
+    assert_told_apart!(negative_zero_blank, WriteResultCase);
+    assert_told_apart!(one_nan, WriteResultCase);
+    assert_told_apart!(one_nan, ResultTripCase);
+}
+
+#[test]
+fn lengths_looked_at_before_the_file() {
+    assert_told_apart!(two_before_ten, ReadResultCase);
+}
+
+#[test]
+fn a_file_left_half_written() {
+    assert_told_apart!(half_written, WriteResultCase);
+}
+
+#[test]
+fn numbers_told_by_the_shape() {
+    assert_told_apart!(numbers_by_shape, ResultNumbersCase);
+}
+
 /// Request (i) of document 02: what document 01's rule refused by 7 is parted on a later pass.
 #[test]
 fn a_stubborn_batch_under_both_rules() {
@@ -248,4 +287,10 @@ fn a_slip_changes_only_its_own_place() {
     assert_same!(GroupingCase: rows_normalized, picks_normalized, last_left_out, not_passed_on, means_normalized);
     assert_same!(BatchCase: rows_normalized, picks_normalized, last_left_out, means_normalized);
     assert_same!(SphericalCase: not_passed_on, means_normalized);
+    // Request (vi) stands apart, and its writer from its readers.
+    assert_same!(BatchCase: equal_ends, last_end_free, row_twice);
+    assert_same!(WriteResultCase: two_before_ten, numbers_by_shape);
+    assert_same!(ReadResultCase: negative_zero_blank, half_written, one_nan, numbers_by_shape);
+    assert_same!(ResultNumbersCase: negative_zero_blank, half_written, one_nan, two_before_ten);
+    assert_same!(ResultTripCase: equal_ends, last_end_free, negative_zero_blank, two_before_ten, half_written, row_twice, numbers_by_shape);
 }

@@ -3,6 +3,8 @@
 
 use crate::placement;
 pub use crate::placement::Placement;
+pub use crate::result_file::{read_result, result_numbers, write_result};
+pub use crate::result_file::{ResultNumbers, ResultTold};
 use crate::stack;
 pub use crate::work::{GroupWork, KMeansWork};
 

@@ -3,6 +3,7 @@
 
 pub mod exported;
 mod placement;
+mod result_file;
 pub mod stack;
 mod work;
 

@@ -16,9 +16,12 @@ pub const KMEANS: usize = 192 << 10;
 pub const GROUP: usize = 256 << 10;
 pub const ROOT: usize = 128 << 10;
 pub const LIST: usize = 640 << 10;
+pub const WRITE_RESULT: usize = 128 << 10;
+pub const RESULT_NUMBERS: usize = 128 << 10;
+pub const READ_RESULT: usize = 128 << 10;
 
 /// All of them by the names of the functions.
-pub const STATED: [(&str, usize); 13] = [
+pub const STATED: [(&str, usize); 16] = [
     ("families_label", LABEL),
     ("families_label_old_way", LABEL),
     ("families_closure", CLOSURE),
@@ -32,6 +35,9 @@ pub const STATED: [(&str, usize); 13] = [
     ("families_group_old_way", GROUP),
     ("families_root", ROOT),
     ("families_list", LIST),
+    ("families_write_result", WRITE_RESULT),
+    ("families_result_numbers", RESULT_NUMBERS),
+    ("families_read_result", READ_RESULT),
 ];
 
 /// What a thread may have used of that stack before a call; the figures above leave it over.

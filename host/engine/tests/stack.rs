@@ -3,7 +3,7 @@
 use std::thread;
 
 use engine::exported::{self, GroupNumbers, GroupTold, GroupWork, KMeansNumbers, KMeansWork};
-use engine::exported::{LabelTold, Mode, Placement};
+use engine::exported::{LabelTold, Mode, Placement, ResultNumbers, ResultTold};
 use engine::stack;
 
 /// Less than any call takes. The system may hand a new thread the stack of one that ended, of up to four times the size: those of the
@@ -14,7 +14,7 @@ const VALUES: [f32; 4] = [0.0, 1.0, 10.0, 11.0];
 
 const MODES: [Mode; 2] = [Mode::Strict, Mode::OldWay];
 
-fn on_small_thread<T: Send + 'static>(call: fn() -> T) -> T {
+fn on_small_thread<T: Send + 'static>(call: impl FnOnce() -> T + Send + 'static) -> T {
     let builder = thread::Builder::new().stack_size(SMALL);
     builder.spawn(call).unwrap().join().unwrap()
 }
@@ -161,6 +161,31 @@ fn list() {
         String::from_utf8(text).unwrap()
     });
     assert_eq!(text, "accepted groups 2 splits 1\n2: 2 3\n2: 0 1\n");
+}
+
+#[test]
+fn result_file() {
+    let numbers = ResultNumbers {
+        rows: 4,
+        dim: 1,
+        groups: 2,
+    };
+    let (order, ends, means) = ([2, 3, 0, 1], [2, 4, 65_535, 65_535], [7, 5, 0, 0]);
+    let file = on_small_thread(move || {
+        let mut file = [9; 44];
+        let number = exported::write_result(numbers, &order, &ends, &means, &mut file);
+        assert_eq!(number, 0);
+        file
+    });
+    let expected = ResultTold { number: 0, numbers };
+    let told = on_small_thread(move || exported::result_numbers(&file));
+    assert_eq!(told, expected);
+    let (told, cells) = on_small_thread(move || {
+        let mut cells = ([9; 4], [9; 4], [9; 4]);
+        let (order, ends, means) = &mut cells;
+        (exported::read_result(&file, order, ends, means), cells)
+    });
+    assert_eq!((told, cells), (expected, (order, ends, means)));
 }
 
 #[test]

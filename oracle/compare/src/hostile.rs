@@ -1,4 +1,4 @@
-//! Input that nobody means well with: any bytes, lengths and numbers, to the exported functions and to the listing program.
+//! Input that nobody means well with: any bytes, lengths and numbers, to the exported functions and to the listing program, result files among them.
 //! Both sides are still compared, so a wrong answer shows as well as a wrong access.
 
 use oracle::calls::Range;
@@ -6,6 +6,7 @@ use oracle::random::Random;
 
 pub mod calls;
 pub mod files;
+mod results;
 
 /// A run of as many cases has to meet each kind of answer; a shorter one may miss some.
 const ENOUGH: u64 = 2_000;

@@ -1,7 +1,7 @@
 //! Hands the same cases to the oracle and to the proved library, and counts those that agree in every cell.
 //!
-//! `compare calls [SEED [TIMES]]`: generated calls of every exported function, those that label in both modes; TIMES multiplies their
-//! number.
+//! `compare calls [SEED [TIMES]]`: generated calls of every exported function, those that label in both modes, and result files that
+//! one side writes and the other reads; TIMES multiplies their number.
 //! `compare files [SEED [COUNT]] [-- PROGRAM..]`: whole batch files through the listing program.
 //! `compare hostile [SEED [COUNT]]`: COUNT calls of each function and COUNT files that nobody means well with, all in this process.
 //! `compare roots`: some millions of floats to the exported root, and to that of the standard library; `compare roots --all` all 2^32.
@@ -23,6 +23,7 @@ use compare::stack;
 use compare::tally::Tally;
 use oracle::cases::{ClosureBytesCase, GroupingCase, KMeansCase, LabelBytesCase, LabelCase};
 use oracle::cases::{PlaceCase, RestartsCase, SphericalCase, SphericalGroupingCase};
+use oracle::cases::{ReadResultCase, ResultNumbersCase, ResultTripCase, WriteResultCase};
 
 /// The built cases and `count` generated ones of one kind, each added by `add`.
 fn compare<C: Compared>(seed: u64, count: u64, add: fn(&mut Tally, &str, &C)) -> Tally {
@@ -50,6 +51,10 @@ fn calls(seed: u64, times: u64) -> Vec<Tally> {
         compare::<GroupingCase>(seed, 6_000 * times, Tally::add_both),
         compare::<SphericalCase>(seed, 6_000 * times, Tally::add_both),
         compare::<SphericalGroupingCase>(seed, 6_000 * times, Tally::add_both),
+        compare::<WriteResultCase>(seed, 20_000 * times, Tally::add),
+        compare::<ResultNumbersCase>(seed, 20_000 * times, Tally::add),
+        compare::<ReadResultCase>(seed, 20_000 * times, Tally::add),
+        compare::<ResultTripCase>(seed, 20_000 * times, Tally::add),
     ]
 }
 

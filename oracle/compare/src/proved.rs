@@ -10,6 +10,7 @@ use crate::tally::{number_kind, Need};
 
 mod grouping;
 mod kmeans;
+mod results;
 mod spherical;
 
 /// A call of k-means or grouping that is accepted with `spherical` on.
@@ -18,7 +19,8 @@ pub const ACCEPTED_ON: &str = "accepted with spherical on";
 /// What the proved library answered and left.
 pub struct Proved<Outcome> {
     pub outcome: Outcome,
-    /// Whether all work slices ended all zero, and a refusal's figures blank: it carries its number alone.
+    /// Whether all work slices ended all zero, and a refusal's figures blank: it carries its number alone. Of a result file that goes
+    /// to and fro, whether everything comes back.
     pub tidy: bool,
 }
 

@@ -31,12 +31,7 @@ pub fn call(name: &str, stack: usize) -> Option<bool> {
     let (passed, failed) = match name {
         "families_label" => hold_in(Strict, stack, heavy::label_bytes()),
         "families_label_old_way" => hold_in(OldWay, stack, heavy::label_bytes()),
-        "families_closure" => hold(
-            stack,
-            heavy::closure_bytes(),
-            |case| tidy(case.proved()),
-            Case::run,
-        ),
+        "families_closure" => hold_one(stack, heavy::closure_bytes()),
         "families_label_rows" => hold_in(Strict, stack, heavy::label_rows()),
         "families_label_rows_old_way" => hold_in(OldWay, stack, heavy::label_rows()),
         "families_place_rows" => hold_in(Strict, stack, heavy::place_rows()),
@@ -47,6 +42,9 @@ pub fn call(name: &str, stack: usize) -> Option<bool> {
         "families_group_old_way" => hold_in(OldWay, stack, heavy::grouping()),
         "families_root" => roots::hold_on(stack),
         "families_list" => hold(stack, heavy::files(), listed, Case::run),
+        "families_write_result" => hold_one(stack, heavy::written()),
+        "families_result_numbers" => hold_one(stack, heavy::told()),
+        "families_read_result" => hold_one(stack, heavy::read()),
         _ => return None,
     };
     let kib = stack >> 10;
@@ -61,6 +59,15 @@ fn tidy<Outcome>(proved: Proved<Outcome>) -> Option<Outcome> {
 
 fn listed(case: &BatchCase) -> Option<Vec<u8>> {
     files::exported(&case.file).ok().map(String::into_bytes)
+}
+
+/// As `hold`, of a function that has no other way.
+fn hold_one<C>(stack: usize, cases: Vec<C>) -> (usize, usize)
+where
+    C: Compared + Sync,
+    C::Outcome: Send,
+{
+    hold(stack, cases, |case| tidy(case.proved()), Case::run)
 }
 
 /// As `hold`, of a function that is one of two ways.

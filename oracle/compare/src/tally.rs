@@ -62,7 +62,7 @@ impl Tally {
             return;
         }
         let text = format!(
-            "{case:?}\nproved {:?}, work slices zero and figures blank: {}\noracle {theirs:?}",
+            "{case:?}\nproved {:?}, all else as it should be: {}\noracle {theirs:?}",
             ours.outcome, ours.tidy
         );
         self.fail(&format!("{} {name}", C::NAME), &text);

@@ -5,7 +5,7 @@ use oracle::cases::PlaceCase;
 use oracle::cases::{ClosureBytesCase, GroupingCase, KMeansCase, LabelBytesCase, LabelCase};
 use oracle::random::Random;
 
-use super::{any_float, any_number, draws, Floats, Mood, ENOUGH};
+use super::{any_float, any_number, draws, results, Floats, Mood, ENOUGH};
 use crate::proved::{Compared, ACCEPTED_ON};
 use crate::tally::{Need, Tally};
 
@@ -18,14 +18,14 @@ const CELLS: u128 = 5_000;
 const MOST_CELLS: u128 = 300_000;
 
 /// What one call may cost and how its lengths are chosen.
-struct Means {
+pub(super) struct Means {
     cost: u64,
     cells: u128,
     odd_lengths: bool,
 }
 
 impl Means {
-    fn new(random: &mut Random) -> Self {
+    pub(super) fn new(random: &mut Random) -> Self {
         let high = random.once_in(500);
         Self {
             cost: if high { HIGH_COST } else { COST },
@@ -34,15 +34,20 @@ impl Means {
         }
     }
 
-    /// Mostly the product of the numbers. One that is too large to lend becomes what 32 or 16 bits keep of it, which fits
-    /// where the product is taken in so few.
-    fn length(&self, random: &mut Random, numbers: &[u32]) -> usize {
+    /// Mostly the product of the numbers.
+    pub(super) fn length(&self, random: &mut Random, numbers: &[u32]) -> usize {
         let product = numbers
             .iter()
             .fold(1u128, |product, &number| product * u128::from(number));
+        self.near(random, product)
+    }
+
+    /// Mostly this length. One that is too large to lend becomes what 32 or 16 bits keep of it, which fits where it is taken in so
+    /// few.
+    pub(super) fn near(&self, random: &mut Random, length: u128) -> usize {
         let exact = [u128::MAX, u32::MAX.into(), u16::MAX.into()]
             .into_iter()
-            .map(|kept| product & kept)
+            .map(|kept| length & kept)
             .find(|&length| length <= self.cells)
             .unwrap_or(3) as usize;
         if !self.odd_lengths || random.once_in(2) {
@@ -267,9 +272,9 @@ fn run<C: Compared>(
     tally
 }
 
-/// How many kinds of case there are, and how many functions: all but closure have two ways.
-pub const KINDS: usize = 6;
-pub const FUNCTIONS: usize = 2 * KINDS - 1;
+/// How many kinds of case there are, and how many functions: those that label have two ways.
+pub const KINDS: usize = 9;
+pub const FUNCTIONS: usize = KINDS + 5;
 
 /// `count` calls of each function.
 pub fn compare(seed: u64, count: u64) -> [Tally; KINDS] {
@@ -280,5 +285,20 @@ pub fn compare(seed: u64, count: u64) -> [Tally; KINDS] {
         run(seed, count, &LABEL_NEEDS, place_rows, Tally::add_both),
         run(seed, count, &KMEANS_NEEDS, kmeans, Tally::add_both),
         run(seed, count, &GROUPING_NEEDS, grouping, Tally::add_both),
+        run(
+            seed,
+            count,
+            &results::WRITE_NEEDS,
+            results::write,
+            Tally::add,
+        ),
+        run(
+            seed,
+            count,
+            &results::NUMBERS_NEEDS,
+            results::numbers,
+            Tally::add,
+        ),
+        run(seed, count, &results::READ_NEEDS, results::read, Tally::add),
     ]
 }

@@ -5,6 +5,7 @@ use oracle::batch::{MAX_FILE_BYTES, TRAILER_BYTES};
 use oracle::calls::{GroupingNumbers, KMeansNumbers};
 use oracle::cases::{file_of, BatchCase, Case, ClosureBytesCase, ClosureCase, GroupingCase};
 use oracle::cases::{KMeansCase, LabelBytesCase, LabelCase, PlaceCase};
+use oracle::cases::{ReadResultCase, ResultNumbersCase, WriteResultCase};
 use oracle::random::Random;
 
 use crate::timing::{rows_around, values};
@@ -156,4 +157,25 @@ pub fn files() -> Vec<BatchCase> {
         longest_file(4_096, 1, 64, 4_096),
         longest_file(255, 64, 16, 55),
     ])
+}
+
+/// The most rows in one group, and in so many that all cells are used.
+fn largest_results() -> [WriteResultCase; 2] {
+    [1, 4_096].map(|groups| WriteResultCase::of(&mut random(), 4_096, 64, groups))
+}
+
+fn largest_result_files() -> [ReadResultCase; 2] {
+    largest_results().map(|case| ReadResultCase::fitting(case.run().file, &case.numbers))
+}
+
+pub fn written() -> Vec<WriteResultCase> {
+    and(largest_results().into())
+}
+
+pub fn told() -> Vec<ResultNumbersCase> {
+    and(largest_result_files().map(ResultNumbersCase::from).into())
+}
+
+pub fn read() -> Vec<ReadResultCase> {
+    and(largest_result_files().into())
 }
