@@ -1,5 +1,6 @@
 //! The batch file of document 01: remark, values, draws, and a trailer that points back to them.
 
+use super::little_endian::words;
 use super::settings::Settings;
 
 pub const MAX_FILE_BYTES: usize = 65_536;
@@ -99,11 +100,6 @@ fn put_words(file: &mut Vec<u8>, words: impl IntoIterator<Item = u32>) {
     for word in words {
         file.extend_from_slice(&word.to_le_bytes());
     }
-}
-
-fn words(bytes: &[u8]) -> Vec<u32> {
-    let word = |four: &[u8]| u32::from_le_bytes([four[0], four[1], four[2], four[3]]);
-    bytes.chunks_exact(4).map(word).collect()
 }
 
 #[cfg(test)]

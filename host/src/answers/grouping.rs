@@ -2,10 +2,19 @@
 
 use engine::exported::{group, GroupNumbers, GroupWork, Mode};
 
+use super::cells::Cells;
 use super::draws::Draws;
-use super::report::{Family, Grouping};
 use super::settings::Settings;
 use crate::reading::table::Table;
+
+/// What the engine gives of a grouping.
+#[derive(Clone, Debug, PartialEq)]
+pub struct Grouping {
+    pub cells: Cells,
+    pub splits: u32,
+    /// Rows that matched no part of a split, summed over the splits: a meter may count several times.
+    pub unplaced: u32,
+}
 
 /// The families of a table's rows, by distance or, `spherical`, by shape; or the refusal's number.
 pub fn families(
@@ -25,50 +34,32 @@ pub fn families(
         budget: settings.budget,
         spherical,
     };
-    let mut order = vec![0; rows];
-    let mut ends = vec![0; rows];
-    let mut means = vec![0.0; rows * dim];
+    let mut cells = Cells::new(rows, dim);
     let told = group(
         mode,
         numbers,
         &draws.numbers(),
         &table.values,
-        &mut order,
-        &mut ends,
-        &mut means,
+        &mut cells.order,
+        &mut cells.ends,
+        &mut cells.means,
         &mut GroupWork::new(rows, dim, 0.0),
     );
     if told.number != 0 {
         return Err(told.number);
     }
+    cells.groups = told.groups as usize;
     Ok(Grouping {
-        families: taken_apart(&order, &ends[..told.groups as usize], &means, dim),
+        cells,
         splits: told.splits,
         unplaced: told.unplaced,
     })
 }
 
-/// Each family's rows stand between two ends, and its mean at its number.
-fn taken_apart(order: &[u16], ends: &[u16], means: &[f32], dim: usize) -> Vec<Family> {
-    let mut start = 0;
-    let mut families = Vec::new();
-    for (end, mean) in ends.iter().zip(means.chunks_exact(dim)) {
-        let end = usize::from(*end);
-        families.push(Family {
-            rows: order[start..end]
-                .iter()
-                .map(|row| usize::from(*row))
-                .collect(),
-            mean: mean.to_vec(),
-        });
-        start = end;
-    }
-    families
-}
-
 #[cfg(test)]
 mod tests {
     use super::*;
+    use crate::answers::report::Family;
     use crate::reading::table::tests::table;
 
     fn p1(limit: u32, budget: u32) -> Result<Grouping, u32> {
@@ -87,7 +78,7 @@ mod tests {
     fn families_have_their_rows_and_means() {
         let grouping = p1(2, 4).unwrap();
         assert_eq!((grouping.splits, grouping.unplaced), (1, 0));
-        let mut families = grouping.families;
+        let mut families = grouping.cells.families();
         families.sort_by_key(|family| family.rows[0]);
         let family = |rows: [usize; 2], mean: f32| Family {
             rows: rows.to_vec(),
@@ -129,7 +120,8 @@ mod tests {
         let rows = |spherical: bool| {
             let draws = Draws { seed: 1, count: 3 };
             let grouping = families(Mode::Strict, spherical, &table, settings, draws).unwrap();
-            let rows = grouping.families.into_iter().map(|family| family.rows);
+            let families = grouping.cells.families().into_iter();
+            let rows = families.map(|family| family.rows);
             let mut rows: Vec<Vec<usize>> = rows.collect();
             rows.iter_mut().for_each(|rows| rows.sort_unstable());
             rows.sort();

@@ -2,16 +2,11 @@
 
 use engine::exported::{self, Mode, Placement};
 
+use super::little_endian::halves;
+
 fn bytes(values: &[f32]) -> Vec<u8> {
     let each = values.iter();
     each.flat_map(|value| value.to_bits().to_le_bytes())
-        .collect()
-}
-
-fn cells(bytes: &[u8]) -> Vec<u16> {
-    let pairs = bytes.chunks_exact(2);
-    pairs
-        .map(|pair| u16::from_le_bytes([pair[0], pair[1]]))
         .collect()
 }
 
@@ -59,7 +54,7 @@ impl Centroids {
         if number != 0 {
             return Err(number);
         }
-        let mut listed = cells(&result);
+        let mut listed = halves(&result);
         let how_many = listed[count] as usize;
         listed.truncate(how_many);
         Ok(listed)

@@ -1,5 +1,7 @@
 //! What a refusal of documents 01 and 02 was about, in the caller's own numbers, and what to change.
 
+mod result_file;
+
 use std::collections::HashMap;
 use std::ops::RangeInclusive;
 
@@ -56,17 +58,35 @@ pub fn of_row(number: u32, call: Nearest) -> String {
     }
 }
 
+/// Why a file was refused by this number as a result file.
+pub fn of_result_file(number: u32, file: &[u8]) -> String {
+    match number {
+        10 => format!(
+            "no result file: {}; nothing of it is taken: have `families group --result` write it anew",
+            result_file::unsound(file)
+        ),
+        other => unknown(other),
+    }
+}
+
+/// That the engine would not write what it had grouped itself.
+pub fn of_writing(number: u32) -> String {
+    format!("the engine refused by {number} to write a grouping that it had made, which it never should; nothing was written")
+}
+
 fn out_of_range(numbers: &[(&str, usize, RangeInclusive<i64>)]) -> String {
+    first_out_of_range(numbers).unwrap_or_else(|| "a number is out of its range".to_string())
+}
+
+fn first_out_of_range(numbers: &[(&str, usize, RangeInclusive<i64>)]) -> Option<String> {
     let is_out =
         |(_, value, range): &&(&str, usize, RangeInclusive<i64>)| !range.contains(&(*value as i64));
-    match numbers.iter().find(is_out) {
-        Some((name, value, range)) => format!(
-            "{name} is {value}; it goes from {} to {}",
-            range.start(),
-            range.end()
-        ),
-        None => "a number is out of its range".to_string(),
-    }
+    let (name, value, range) = numbers.iter().find(is_out)?;
+    Some(format!(
+        "{name} is {value}; it goes from {} to {}",
+        range.start(),
+        range.end()
+    ))
 }
 
 const NO_FAMILY: &str = "no family fits a limit of 0; take a limit of 1 or more";
@@ -323,6 +343,14 @@ mod tests {
         assert!(!none.contains("can match"), "{none}");
         let many = told(1, &[f32::INFINITY; 25]);
         assert_has(&many, &["match 0, 1, 2, ", ", 23, 24, whose"]);
+    }
+
+    #[test]
+    fn a_result_file_is_told_by_its_number_and_what_to_do() {
+        let told = of_result_file(10, b"no such file");
+        assert_has(&told, &["no result file: it has 12 bytes", "write it anew"]);
+        assert_has(&of_result_file(2, &[]), &["refusal 2", "no words"]);
+        assert_has(&of_writing(10), &["refused by 10", "nothing was written"]);
     }
 
     /// The squares of the first row are lost one by one behind the large one; in front of it they add up to what overflows.

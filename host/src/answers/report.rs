@@ -1,4 +1,4 @@
-//! A grouping with everything that a person needs beside it: whose rows they are, where each meter stands, and how it was asked for.
+//! Families with everything that a person needs beside them: whose rows they are, where each meter stands, and how they came about.
 
 use crate::answers::draws::Draws;
 use crate::answers::settings::Settings;
@@ -11,9 +11,25 @@ pub struct Family {
     pub mean: Vec<f32>,
 }
 
-#[derive(Clone, Debug, PartialEq)]
-pub struct Grouping {
-    pub families: Vec<Family>,
+/// How families came about.
+#[derive(Clone, Debug)]
+pub enum Origin {
+    Grouped(Grouped),
+    /// Read from a result file, which tells nothing of the grouping; the serial numbers are of the file named here, where there is one.
+    Read {
+        serials: Option<String>,
+    },
+}
+
+/// A grouping beside its families: how it was asked for, and what it took.
+#[derive(Clone, Copy, Debug)]
+pub struct Grouped {
+    pub settings: Settings,
+    pub draws: Draws,
+    /// Whether unplaced rows were asked for, and not refused.
+    pub allow_unplaced: bool,
+    /// Whether the families go by shape.
+    pub spherical: bool,
     pub splits: u32,
     /// Rows that matched no part of a split, summed over the splits: a meter may count several times.
     pub unplaced: u32,
@@ -34,18 +50,13 @@ pub struct Place {
 
 #[derive(Clone, Debug)]
 pub struct Report {
-    /// The file that the readings came from, as it was named.
+    /// The file that the families came from, as it was named: of readings that were grouped, or a result file.
     pub source: String,
+    pub origin: Origin,
     pub table: Table,
-    pub settings: Settings,
-    pub draws: Draws,
     /// Meters to a tray.
     pub tray: usize,
-    /// Whether unplaced rows were asked for, and not refused.
-    pub allow_unplaced: bool,
-    /// Whether the families go by shape.
-    pub spherical: bool,
-    pub grouping: Grouping,
+    pub families: Vec<Family>,
     pub warnings: Vec<String>,
 }
 
@@ -61,6 +72,20 @@ impl Report {
     pub fn meters(&self) -> usize {
         self.table.rows
     }
+
+    /// Nothing where the families come from a result file.
+    pub fn grouped(&self) -> Option<&Grouped> {
+        match &self.origin {
+            Origin::Grouped(grouped) => Some(grouped),
+            Origin::Read { .. } => None,
+        }
+    }
+
+    /// The most meters that a family was allowed, where that is known.
+    pub fn limit(&self) -> Option<usize> {
+        let grouped = self.grouped()?;
+        Some(grouped.settings.limit as usize)
+    }
 }
 
 #[cfg(test)]
@@ -75,6 +100,22 @@ pub mod tests {
         };
         Report {
             source: "r.csv".into(),
+            origin: Origin::Grouped(Grouped {
+                settings: Settings {
+                    limit: 2,
+                    branching: 2,
+                    weight: 0.25,
+                    budget: 4,
+                },
+                draws: Draws {
+                    seed: u64::MAX,
+                    count: 3,
+                },
+                allow_unplaced: false,
+                spherical: false,
+                splits: 1,
+                unplaced: 0,
+            }),
             table: Table {
                 rows: 3,
                 readings: 2,
@@ -82,25 +123,27 @@ pub mod tests {
                 serials: Some(["A 1", "B", "C"].map(String::from).to_vec()),
                 names: Some(["low", "high"].map(String::from).to_vec()),
             },
-            settings: Settings {
-                limit: 2,
-                branching: 2,
-                weight: 0.25,
-                budget: 4,
-            },
-            draws: Draws {
-                seed: u64::MAX,
-                count: 3,
-            },
             tray: 2,
-            allow_unplaced: false,
-            spherical: false,
-            grouping: Grouping {
-                families: vec![family(&[2, 0], [0.5, 0.1]), family(&[1], [-0.25, 3.0])],
-                splits: 1,
-                unplaced: 0,
-            },
+            families: vec![family(&[2, 0], [0.5, 0.1]), family(&[1], [-0.25, 3.0])],
             warnings: vec!["look out".into()],
+        }
+    }
+
+    /// The same families from a result file alone.
+    pub fn of_result_file() -> Report {
+        Report {
+            source: "r.bin".into(),
+            origin: Origin::Read { serials: None },
+            table: Table::unread(3, 2),
+            ..report()
+        }
+    }
+
+    /// The grouping of a report that has one, to change.
+    pub fn grouped(report: &mut Report) -> &mut Grouped {
+        match &mut report.origin {
+            Origin::Grouped(grouped) => grouped,
+            Origin::Read { .. } => panic!("no grouping"),
         }
     }
 
@@ -109,5 +152,11 @@ pub mod tests {
         let places = [0, 1, 2].map(|row| report().place(row));
         let of = |tray, place| Place { tray, place };
         assert_eq!(places, [of(1, 1), of(1, 2), of(2, 1)]);
+    }
+
+    #[test]
+    fn a_limit_is_known_of_a_grouping_alone() {
+        assert_eq!(report().limit(), Some(2));
+        assert_eq!(of_result_file().limit(), None);
     }
 }

@@ -1,5 +1,6 @@
 //! Readings that the engine groups exactly as defined, and still not as a person expects: told before anyone acts on the families.
 
+use super::report::Family;
 use crate::reading::table::Table;
 
 /// A score is a sum of some rounded terms; together they are off by up to about this part of the largest sum of squares.
@@ -23,6 +24,38 @@ pub fn of_centroids(rows: &Table, centroids: &Table) -> Vec<String> {
         true => cancellation(rows, centroids).into_iter().collect(),
         false => Vec::new(),
     }
+}
+
+/// What is to be said of readings that stand beside a result file's families: means that are not theirs.
+pub fn of_means(table: &Table, families: &[Family]) -> Vec<String> {
+    let other = families.iter().enumerate().find_map(|(number, family)| {
+        let means = mean(table, &family.rows);
+        let mut pairs = family.mean.iter().zip(&means).enumerate();
+        let (at, (its, mine)) = pairs.find(|(_, (its, mine))| !is_same(**its, **mine))?;
+        Some(format!(
+            "these are probably not the readings that the result file was made from: the mean of family {number} is {its} in the file and {mine} over these (reading {}), so serial numbers may stand in other meters' families",
+            at + 1
+        ))
+    });
+    other.into_iter().collect()
+}
+
+/// The mean of some rows as the engine makes it: summed in 32 bits in the family's order, and divided by their number.
+fn mean(table: &Table, rows: &[usize]) -> Vec<f32> {
+    let mut sums = vec![0.0f32; table.readings];
+    for &row in rows {
+        for (sum, value) in sums.iter_mut().zip(table.row(row)) {
+            *sum += value;
+        }
+    }
+    sums.into_iter()
+        .map(|sum| sum / rows.len() as f32)
+        .collect()
+}
+
+/// Bit by bit; which NaN a sum gives is the processor's choice.
+fn is_same(one: f32, other: f32) -> bool {
+    one.to_bits() == other.to_bits() || (one.is_nan() && other.is_nan())
 }
 
 /// The rows whose squared distances leave the range of 32-bit floats, or come close to it.
@@ -118,6 +151,60 @@ mod tests {
             "{told:?}"
         );
         assert_eq!(overflowing(&table(1, &[9e18, 1e19])), [1]);
+    }
+
+    fn family(rows: &[usize], mean: &[f32]) -> Family {
+        Family {
+            rows: rows.to_vec(),
+            mean: mean.to_vec(),
+        }
+    }
+
+    #[test]
+    fn the_first_family_of_other_readings_is_told() {
+        let table = table(2, &[1.0, 2.0, 3.0, 4.0, 0.1, -0.0]);
+        let sound = [family(&[2], &[0.1, 0.0]), family(&[0, 1], &[2.0, 3.0])];
+        assert!(of_means(&table, &sound).is_empty());
+        let other = [
+            family(&[2], &[0.1, 0.0]),
+            family(&[1, 0], &[2.0, 3.5]),
+            family(&[0], &[9.0; 2]),
+        ];
+        let told = of_means(&table, &other);
+        assert_eq!(told.len(), 1);
+        let words = "the mean of family 1 is 3.5 in the file and 3 over these (reading 2)";
+        assert!(told[0].contains(words), "{told:?}");
+        // Bits count, and the sum starts from +0.0.
+        let signed = of_means(&table, &[family(&[2], &[0.1, -0.0])]);
+        assert!(
+            signed[0].contains("is -0 in the file and 0 over"),
+            "{signed:?}"
+        );
+        assert!(of_means(&table, &[]).is_empty());
+    }
+
+    #[test]
+    fn means_are_summed_in_32_bits_in_order_and_divided() {
+        let values = [1e8f32, 1.0, -1e8, 0.1, 0.2, 0.3, 0.7];
+        let table = table(1, &values);
+        assert_eq!(mean(&table, &[0, 1, 2]), [0.0]);
+        assert_eq!(mean(&table, &[0, 2, 1]), [1.0 / 3.0]);
+        let sum = ((0.1f32 + 0.2) + 0.3) + 0.7;
+        assert_eq!(mean(&table, &[3, 4, 5, 6]), [sum / 4.0]);
+        // Divided, and not times the inverse.
+        let ten = [3; 10];
+        let sum = ten.iter().fold(0.0f32, |sum, _| sum + 0.1);
+        assert_eq!(mean(&table, &ten), [sum / 10.0]);
+        assert_ne!(sum / 10.0, sum * (1.0 / 10.0));
+    }
+
+    #[test]
+    fn one_nan_is_as_good_as_another() {
+        let odd = f32::from_bits(0xffc1_2345);
+        let table = table(1, &[f32::MAX, f32::MAX, f32::MIN, f32::NEG_INFINITY]);
+        assert!(of_means(&table, &[family(&[0, 1], &[f32::INFINITY])]).is_empty());
+        assert!(of_means(&table, &[family(&[0, 1, 3], &[odd])]).is_empty());
+        assert_eq!(of_means(&table, &[family(&[0, 1], &[odd])]).len(), 1);
     }
 
     #[test]

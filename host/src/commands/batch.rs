@@ -9,9 +9,15 @@ use crate::answers::batch_file::{self, MAX_FILE_BYTES};
 use crate::answers::digest::Tie;
 use crate::failure::Failure;
 use crate::options::grouping::GroupingOptions;
+use crate::options::reading::source;
+use crate::reading::source::Source;
 
 #[derive(Args, Clone, Debug)]
 pub struct Batch {
+    /// Readings, one meter to a line; `-` is standard input
+    #[arg(value_name = "READINGS.csv", value_parser = source())]
+    file: Source,
+
     #[command(flatten)]
     grouping: GroupingOptions,
 
@@ -22,7 +28,7 @@ pub struct Batch {
 
 impl Batch {
     pub fn run(&self) -> Result<Done, Failure> {
-        let asked = self.grouping.read()?;
+        let asked = self.grouping.read(&self.file)?;
         let (table, draws) = (asked.table, asked.draws);
         let tie = Tie::new(table.serials.as_deref(), asked.settings, draws);
         let batch = batch_file::Batch {
@@ -38,7 +44,7 @@ impl Batch {
                 "{} rows of {} readings, {} draws and {} bytes of remark make {length} bytes; a batch file has at most {MAX_FILE_BYTES}; `families group` has no such bound",
                 batch.rows, batch.dim, draws.count, batch.remark.len()
             );
-            Failure::input(asked.source, what)
+            Failure::input(&self.file, what)
         })?;
         Ok(Done {
             output,

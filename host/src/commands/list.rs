@@ -142,7 +142,7 @@ fn why(number: u32, file: &[u8], batch: Option<Batch>, serials: Option<Table>) -
 }
 
 fn text(families: &Families, rows: usize, name: impl Fn(usize) -> String) -> String {
-    let mut text = summary(families.groups.len(), rows, families.splits);
+    let mut text = summary(families.groups.len(), rows, Some(families.splits));
     for (number, group) in families.groups.iter().enumerate() {
         let names: Vec<String> = group.iter().map(|&row| name(row)).collect();
         let size = group.len();

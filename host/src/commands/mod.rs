@@ -6,6 +6,7 @@ mod group;
 mod label;
 mod list;
 mod page;
+mod read;
 
 use clap::{Parser, Subcommand};
 
@@ -31,15 +32,17 @@ pub struct Program {
 const AFTER: &str = "\
 Rows, families and centroids are counted from 0; trays, places, lines and columns from 1.
 Exit codes: 0 done; 1 refused, with the refusal's number and what to change; 2 bad usage;
-3 a CSV or batch file that does not hold what it should; 4 a program or file that could not be
-run, read or written.";
+3 a CSV or batch file that does not hold what it should, or readings that are not a result file's;
+4 a program or file that could not be run, read or written.";
 
 #[derive(Subcommand, Debug)]
 enum Command {
     /// Group a CSV of readings and print the families: serials, sizes, means
     Group(group::Group),
-    /// Group a CSV of readings into one HTML page with a chart for each family
+    /// Group a CSV of readings, or take a result file, into one HTML page with a chart for each family
     Page(page::Page),
+    /// Print the families of a result file, which `group --result` writes
+    Read(read::Read),
     /// Write a batch file, which the listing program groups, to standard output
     Batch(batch::Batch),
     /// Have the listing program group a batch file, and print the families
@@ -58,6 +61,7 @@ impl Program {
         match &self.command {
             Command::Group(command) => command.run(),
             Command::Page(command) => command.run(),
+            Command::Read(command) => command.run(),
             Command::Batch(command) => command.run(),
             Command::List(command) => command.run(),
             Command::Label(command) => command.run(),
@@ -81,7 +85,7 @@ mod tests {
     #[test]
     fn no_command_knows_another() {
         let folder = Path::new(env!("CARGO_MANIFEST_DIR")).join("src/commands");
-        let names = ["batch", "closure", "group", "label", "list", "page"];
+        let names = ["batch", "closure", "group", "label", "list", "page", "read"];
         for name in names {
             let text = fs::read_to_string(folder.join(format!("{name}.rs"))).unwrap();
             let code = text.split("#[cfg(test)]").next().unwrap();

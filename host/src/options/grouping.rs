@@ -1,14 +1,14 @@
-//! What is grouped and how: the file, the settings with their defaults, the seed; and the report that comes of it.
-
-use std::fs;
-use std::path::Path;
+//! How readings are grouped: the settings with their defaults, the seed; and the report that comes of it.
 
 use clap::{value_parser, Args};
 use engine::exported::Mode;
 
-use super::reading::{source, ReadingOptions};
+use super::reading::ReadingOptions;
+use super::result_file::ResultAsked;
+use super::shown::TrayOptions;
+use crate::answers::cells::Cells;
 use crate::answers::draws::{any_seed, Draws};
-use crate::answers::report::Report;
+use crate::answers::report::{Grouped, Origin, Report};
 use crate::answers::settings::{Settings, BRANCHING, BUDGET, LIMIT};
 use crate::answers::{grouping, refusals, warnings};
 use crate::failure::Failure;
@@ -16,13 +16,9 @@ use crate::reading::decimal::{self, Words};
 use crate::reading::source::Source;
 use crate::reading::table::Table;
 
-/// A file of readings and the settings of its grouping.
+/// The settings of a grouping, and how its file of readings is to be read.
 #[derive(Args, Clone, Debug)]
 pub struct GroupingOptions {
-    /// Readings, one meter to a line; `-` is standard input
-    #[arg(value_name = "READINGS.csv", value_parser = source())]
-    file: Source,
-
     #[command(flatten)]
     reading: ReadingOptions,
 
@@ -62,7 +58,6 @@ pub fn float(text: &str) -> Result<f32, &'static str> {
 
 /// What there is to group, and what is to be said of it.
 pub struct ToGroup {
-    pub source: Source,
     pub table: Table,
     pub settings: Settings,
     pub draws: Draws,
@@ -72,8 +67,7 @@ pub struct ToGroup {
 }
 
 impl GroupingOptions {
-    pub fn read(&self) -> Result<ToGroup, Failure> {
-        let source = &self.file;
+    pub fn read(&self, source: &Source) -> Result<ToGroup, Failure> {
         let table = Table::of(source, self.reading.rules(Words::NotTaken))?;
         if table.readings == 0 {
             let what = "empty, so that nothing tells how many readings a row has";
@@ -89,7 +83,6 @@ impl GroupingOptions {
             ));
         }
         Ok(ToGroup {
-            source: source.clone(),
             table,
             settings: Settings {
                 limit: self.limit,
@@ -124,9 +117,8 @@ pub struct ReportOptions {
     #[command(flatten)]
     grouping: GroupingOptions,
 
-    /// Meters to a tray, 1 to 4096: rows come tray after tray
-    #[arg(long, value_name = "N", default_value = "40", value_parser = value_parser!(u32).range(1..=4_096))]
-    tray: u32,
+    #[command(flatten)]
+    tray: TrayOptions,
 
     /// Group meters that match no part of a split too, as label 0, and tell how many; else such a batch is refused by 9
     #[arg(long)]
@@ -145,44 +137,42 @@ impl ReportOptions {
         }
     }
 
-    /// The report, and lines for standard error.
-    pub fn report(&self) -> Result<(Report, Vec<String>), Failure> {
-        let asked = self.grouping.read()?;
+    /// The report, the engine's own cells of it, and lines for standard error.
+    pub fn report(&self, source: &Source) -> Result<(Report, Cells, Vec<String>), Failure> {
+        let asked = self.grouping.read(source)?;
         let (table, settings, draws) = (asked.table, asked.settings, asked.draws);
         let found = grouping::families(self.mode(), self.spherical, &table, settings, draws);
         let grouping = found.map_err(|number| {
             let why = refusals::of_grouping(number, &table, settings, draws.count);
             // The seed may have been chosen, and another one may not be refused.
-            Failure::refused(
-                number,
-                &asked.source,
-                format!("{why} (seed {})", draws.seed),
-            )
+            Failure::refused(number, source, format!("{why} (seed {})", draws.seed))
         })?;
         let report = Report {
-            source: asked.source.to_string(),
+            source: source.to_string(),
+            origin: Origin::Grouped(Grouped {
+                settings,
+                draws,
+                allow_unplaced: self.allow_unplaced,
+                spherical: self.spherical,
+                splits: grouping.splits,
+                unplaced: grouping.unplaced,
+            }),
             table,
-            settings,
-            draws,
-            tray: self.tray as usize,
-            allow_unplaced: self.allow_unplaced,
-            spherical: self.spherical,
-            grouping,
+            tray: self.tray.meters(),
+            families: grouping.cells.families(),
             warnings: asked.warnings,
         };
-        Ok((report, asked.notes))
+        Ok((report, grouping.cells, asked.notes))
     }
 
-    /// A file that is written must not be the one that is read.
-    pub fn check_written(&self, path: Option<&Path>) -> Result<(), Failure> {
-        let source = &self.grouping.file;
-        let real = |path: &Path| fs::canonicalize(path).ok();
-        let read = source.path().and_then(real);
-        match path.and_then(real) {
-            Some(written) if Some(&written) == read.as_ref() => Err(Failure::Usage(format!(
-                "{source} holds the readings and is not written over"
-            ))),
-            _ => Ok(()),
+    /// A result file in place of a grouping: of these options those that it has a use for.
+    pub fn of_result<'a>(&self, file: &'a Source, serials: Option<&'a Source>) -> ResultAsked<'a> {
+        ResultAsked {
+            file,
+            serials,
+            rules: self.grouping.reading.rules(Words::NotTaken),
+            tray: self.tray.meters(),
+            fail_on_warning: self.grouping.fail_on_warning,
         }
     }
 }

@@ -3,3 +3,6 @@
 pub mod grouping;
 pub mod nearest;
 pub mod reading;
+pub mod result_file;
+pub mod shown;
+pub mod written;

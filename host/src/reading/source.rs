@@ -2,7 +2,7 @@
 
 use std::ffi::OsString;
 use std::fmt;
-use std::fs;
+use std::fs::File;
 use std::io::{self, Read};
 use std::path::{Path, PathBuf};
 
@@ -34,14 +34,23 @@ impl fmt::Display for Source {
 
 impl Source {
     pub fn read(&self) -> Result<Vec<u8>, Failure> {
-        let bytes = match self {
-            Source::Input => {
-                let mut bytes = Vec::new();
-                io::stdin().read_to_end(&mut bytes).map(|_| bytes)
+        self.read_up_to(usize::MAX)
+    }
+
+    /// The front of a file that may be longer than any that is of use.
+    pub fn read_up_to(&self, most: usize) -> Result<Vec<u8>, Failure> {
+        let mut bytes = Vec::new();
+        let most = most as u64;
+        let read = match self {
+            Source::Input => io::stdin().take(most).read_to_end(&mut bytes),
+            Source::File(path) => {
+                File::open(path).and_then(|file| file.take(most).read_to_end(&mut bytes))
             }
-            Source::File(path) => fs::read(path),
         };
-        bytes.map_err(|error| Failure::system(self, error))
+        match read {
+            Ok(_) => Ok(bytes),
+            Err(error) => Err(Failure::system(self, error)),
+        }
     }
 
     pub fn path(&self) -> Option<&Path> {
@@ -62,6 +71,16 @@ mod tests {
         let file = Source::from(OsString::from("-.csv"));
         assert_eq!(file, Source::File("-.csv".into()));
         assert_eq!(file.to_string(), "-.csv");
+    }
+
+    #[test]
+    fn a_file_is_read_up_to_a_length() {
+        let endless = Source::File("/dev/zero".into());
+        assert_eq!(endless.read_up_to(7), Ok(vec![0; 7]));
+        let own = Source::File(concat!(env!("CARGO_MANIFEST_DIR"), "/Cargo.toml").into());
+        let (whole, front) = (own.read().unwrap(), own.read_up_to(9).unwrap());
+        assert_eq!(front, whole[..9]);
+        assert_eq!(own.read_up_to(whole.len() + 1), Ok(whole));
     }
 
     #[test]

@@ -27,7 +27,7 @@ pub struct Table {
     pub rows: usize,
     /// Readings in a row; 0 only where the file is empty.
     pub readings: usize,
-    /// Row after row.
+    /// Row after row; none where the rows were not read.
     pub values: Vec<f32>,
     pub serials: Option<Vec<String>>,
     /// What the header calls each reading, where there is a header.
@@ -38,7 +38,7 @@ impl Table {
     pub fn read(bytes: &[u8], rules: Rules) -> Result<Self, Fault> {
         let lines = cells::lines(bytes)?;
         let Some(first) = lines.first() else {
-            return Ok(Self::empty());
+            return Ok(Self::unread(0, 0));
         };
         check_last_column(&lines)?;
         let header = is_header(first);
@@ -67,10 +67,11 @@ impl Table {
         Self::read(&source.read()?, rules).map_err(|fault| Failure::input(source, fault))
     }
 
-    fn empty() -> Self {
+    /// Rows of which no more is known than how many there are, and of how many readings.
+    pub fn unread(rows: usize, readings: usize) -> Self {
         Self {
-            rows: 0,
-            readings: 0,
+            rows,
+            readings,
             values: Vec::new(),
             serials: None,
             names: None,

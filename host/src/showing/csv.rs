@@ -7,7 +7,7 @@ use crate::answers::report::Report;
 /// One line for each meter in the order of the rows, so that a meter that is skipped shows.
 pub fn meters(report: &Report) -> Vec<u8> {
     let mut family_of = vec![0; report.meters()];
-    for (number, family) in report.grouping.families.iter().enumerate() {
+    for (number, family) in report.families.iter().enumerate() {
         for row in &family.rows {
             family_of[*row] = number;
         }
@@ -32,7 +32,7 @@ pub fn means(report: &Report) -> Vec<u8> {
             .collect(),
     };
     let mut lines = vec![line("family".to_string(), names)];
-    for (number, family) in report.grouping.families.iter().enumerate() {
+    for (number, family) in report.families.iter().enumerate() {
         let mean = family.mean.iter().map(f32::to_string).collect();
         lines.push(line(format!("family {number}"), mean));
     }

@@ -1,8 +1,8 @@
-//! Families as JSON: everything, the settings and the engine's version too.
+//! Families as JSON: everything that is known, the engine's version too.
 
 use serde::{Serialize, Serializer};
 
-use crate::answers::report::Report;
+use crate::answers::report::{Grouped, Origin, Report};
 
 #[derive(Serialize)]
 struct Whole<'a> {
@@ -11,12 +11,25 @@ struct Whole<'a> {
     meters: usize,
     readings: usize,
     reading_names: Option<&'a [String]>,
-    settings: Settings,
-    splits: u32,
-    /// No number of meters: one counts in every split that does not place it.
-    unplaced_rows_summed_over_splits: u32,
+    #[serde(flatten)]
+    origin: OriginKeys<'a>,
     warnings: &'a [String],
     families: Vec<Family<'a>>,
+}
+
+/// What is known of families by how they came about.
+#[derive(Serialize)]
+#[serde(untagged)]
+enum OriginKeys<'a> {
+    Grouped {
+        settings: Settings,
+        splits: u32,
+        /// No number of meters: one counts in every split that does not place it.
+        unplaced_rows_summed_over_splits: u32,
+    },
+    Read {
+        serials_from: Option<&'a str>,
+    },
 }
 
 #[derive(Serialize)]
@@ -69,7 +82,7 @@ impl Serialize for Float {
 }
 
 pub fn families(report: &Report) -> String {
-    let families = report.grouping.families.iter().enumerate();
+    let families = report.families.iter().enumerate();
     let families = families.map(|(number, family)| Family {
         family: number,
         size: family.rows.len(),
@@ -86,9 +99,7 @@ pub fn families(report: &Report) -> String {
         meters: report.meters(),
         readings: report.table.readings,
         reading_names: report.table.names.as_deref(),
-        settings: settings(report),
-        splits: report.grouping.splits,
-        unplaced_rows_summed_over_splits: report.grouping.unplaced,
+        origin: origin(report),
         warnings: &report.warnings,
         families: families.collect(),
     };
@@ -97,18 +108,31 @@ pub fn families(report: &Report) -> String {
     text
 }
 
-fn settings(report: &Report) -> Settings {
-    let settings = report.settings;
+fn origin(report: &Report) -> OriginKeys<'_> {
+    match &report.origin {
+        Origin::Grouped(grouped) => OriginKeys::Grouped {
+            settings: settings(grouped, report.tray),
+            splits: grouped.splits,
+            unplaced_rows_summed_over_splits: grouped.unplaced,
+        },
+        Origin::Read { serials } => OriginKeys::Read {
+            serials_from: serials.as_deref(),
+        },
+    }
+}
+
+fn settings(grouped: &Grouped, tray: usize) -> Settings {
+    let settings = grouped.settings;
     Settings {
         limit: settings.limit,
         branching: settings.branching,
         weight: Float(settings.weight),
         budget: settings.budget,
-        seed: report.draws.seed.to_string(),
-        draws: report.draws.count,
-        tray: report.tray,
-        allow_unplaced: report.allow_unplaced,
-        spherical: report.spherical,
+        seed: grouped.draws.seed.to_string(),
+        draws: grouped.draws.count,
+        tray,
+        allow_unplaced: grouped.allow_unplaced,
+        spherical: grouped.spherical,
     }
 }
 
@@ -125,7 +149,7 @@ fn meter(report: &Report, row: usize) -> Meter<'_> {
 #[cfg(test)]
 mod tests {
     use super::*;
-    use crate::answers::report::tests::report;
+    use crate::answers::report::tests::{grouped, of_result_file, report};
     use serde_json::{json, Value};
 
     fn value(report: &Report) -> Value {
@@ -155,9 +179,40 @@ mod tests {
     }
 
     #[test]
+    fn families_of_a_result_file_have_what_it_tells() {
+        let mut report = of_result_file();
+        let whole = value(&report);
+        let keys: Vec<&String> = whole.as_object().unwrap().keys().collect();
+        let known = [
+            "families",
+            "meters",
+            "program",
+            "reading_names",
+            "readings",
+            "serials_from",
+            "source",
+            "warnings",
+        ];
+        assert_eq!(keys, known);
+        assert_eq!(
+            (&whole["meters"], &whole["readings"]),
+            (&json!(3), &json!(2))
+        );
+        assert_eq!(
+            whole["families"][1],
+            json!({"family": 1, "size": 1, "mean": [-0.25, 3.0],
+                   "meters": [{"serial": null, "row": 1, "tray": 1, "place": 2}]})
+        );
+        let serials = Some("r.csv".to_string());
+        report.origin = Origin::Read { serials };
+        assert_eq!(value(&report)["serials_from"], "r.csv");
+    }
+
+    #[test]
     fn unplaced_rows_are_a_figure_of_their_own() {
         let mut report = report();
-        (report.grouping.unplaced, report.allow_unplaced) = (7, true);
+        let grouped = grouped(&mut report);
+        (grouped.unplaced, grouped.allow_unplaced) = (7, true);
         let value = value(&report);
         assert_eq!(value["unplaced_rows_summed_over_splits"], 7);
         assert_eq!(value["settings"]["allow_unplaced"], true);
@@ -167,14 +222,14 @@ mod tests {
     #[test]
     fn families_by_shape_are_told_by_a_setting() {
         let mut report = report();
-        report.spherical = true;
+        grouped(&mut report).spherical = true;
         assert_eq!(value(&report)["settings"]["spherical"], true);
     }
 
     #[test]
     fn floats_are_short_and_what_is_not_finite_is_text() {
         let mut report = report();
-        report.grouping.families[1].mean = vec![f32::INFINITY, 3.0];
+        report.families[1].mean = vec![f32::INFINITY, 3.0];
         let text = families(&report);
         assert!(text.contains("0.1\n"), "{text}");
         assert_eq!(value(&report)["families"][1]["mean"], json!(["inf", 3.0]));

@@ -1,4 +1,4 @@
-//! A grouping as one HTML file that needs nothing else, to look at, to print and to keep beside the readings.
+//! Families as one HTML file that needs nothing else, to look at, to print and to keep beside the readings.
 
 mod chart;
 mod overview;
@@ -12,7 +12,7 @@ mod text;
 use self::chart::Chart;
 use self::spread::Spreads;
 use self::text::escape;
-use crate::answers::report::{Report, SPHERICAL, UNPLACED};
+use crate::answers::report::{Origin, Report, SPHERICAL, UNPLACED};
 
 /// The whole page.
 pub fn html(report: &Report) -> String {
@@ -21,7 +21,7 @@ pub fn html(report: &Report) -> String {
     let mut page = head(report);
     page += &warnings(report);
     page += &overview::overview(report, &spreads);
-    for number in 0..report.grouping.families.len() {
+    for number in 0..report.families.len() {
         page += &section::section(report, &chart, &spreads, number);
     }
     page + "</main>\n</body>\n</html>\n"
@@ -34,35 +34,56 @@ fn head(report: &Report) -> String {
          <meta name=\"color-scheme\" content=\"light dark\">\n\
          <title>Meter families: {file}</title>\n<style>\n{}</style>\n</head>\n\
          <body>\n<main>\n<header class=\"top\">\n<h1>Meter families</h1>\n\
-         <p class=\"file\">{file}</p>\n{}{}</header>\n",
+         <p class=\"file\">{}</p>\n{}{}</header>\n",
         include_str!("page/page.css"),
+        origin(report),
         result(report),
         settings(report),
         file = escape(&report.source),
     )
 }
 
+/// Which files the page is of; families that were read are not mistaken for a new grouping.
+fn origin(report: &Report) -> String {
+    let source = escape(&report.source);
+    match &report.origin {
+        Origin::Grouped(_) => source,
+        Origin::Read { serials: None } => format!("families of the result file {source}"),
+        Origin::Read {
+            serials: Some(readings),
+        } => format!(
+            "families of the result file {source}, readings of {}",
+            escape(readings)
+        ),
+    }
+}
+
 fn result(report: &Report) -> String {
-    let grouping = &report.grouping;
-    facts(&[
+    let mut shown = vec![
         ("meters", report.meters().to_string()),
-        ("families", grouping.families.len().to_string()),
-        ("splits", grouping.splits.to_string()),
-        (UNPLACED, grouping.unplaced.to_string()),
-    ])
+        ("families", report.families.len().to_string()),
+    ];
+    if let Some(grouped) = report.grouped() {
+        shown.push(("splits", grouped.splits.to_string()));
+        shown.push((UNPLACED, grouped.unplaced.to_string()));
+    }
+    facts(&shown)
 }
 
 fn settings(report: &Report) -> String {
-    let mut shown = vec![
-        ("limit", report.settings.limit.to_string()),
-        ("branching", report.settings.branching.to_string()),
-        ("weight", report.settings.weight.to_string()),
-        ("budget", report.settings.budget.to_string()),
-        ("seed", report.draws.seed.to_string()),
-        ("draws", report.draws.count.to_string()),
-        ("meters to a tray", report.tray.to_string()),
-    ];
-    if report.spherical {
+    let mut shown = Vec::new();
+    if let Some(grouped) = report.grouped() {
+        shown.extend([
+            ("limit", grouped.settings.limit.to_string()),
+            ("branching", grouped.settings.branching.to_string()),
+            ("weight", grouped.settings.weight.to_string()),
+            ("budget", grouped.settings.budget.to_string()),
+            ("seed", grouped.draws.seed.to_string()),
+            ("draws", grouped.draws.count.to_string()),
+        ]);
+    }
+    shown.push(("meters to a tray", report.tray.to_string()));
+    if report.grouped().is_some_and(|grouped| grouped.spherical) {
         shown.push((SPHERICAL.0, SPHERICAL.1.to_string()));
     }
     facts(&shown)

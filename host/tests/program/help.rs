@@ -2,7 +2,7 @@
 
 use crate::common::Folder;
 
-const COMMANDS: [&str; 6] = ["group", "page", "batch", "list", "label", "closure"];
+const COMMANDS: [&str; 7] = ["group", "page", "read", "batch", "list", "label", "closure"];
 
 #[test]
 fn help_of_the_program_names_every_command() {
@@ -57,6 +57,22 @@ fn some_options_are_there_only_where_families_are_shown() {
             let shown = ["group", "page"].contains(&command);
             assert_eq!(has, shown, "{command} {option}");
         }
+    }
+}
+
+#[test]
+fn a_result_file_is_written_by_one_command_and_read_by_two() {
+    let folder = Folder::new("help_result");
+    for command in COMMANDS {
+        let run = folder.run(&[command, "-h"]);
+        let has = run.text().contains("--result <FILE>");
+        assert_eq!(has, ["group", "page"].contains(&command), "{command}");
+        let has = run.text().contains("--serials <READINGS.csv>");
+        assert_eq!(
+            has,
+            ["page", "read", "list"].contains(&command),
+            "{command}"
+        );
     }
 }
 

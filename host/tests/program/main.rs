@@ -7,3 +7,4 @@ mod help;
 mod list;
 mod nearest;
 mod page;
+mod result;

@@ -137,3 +137,83 @@ fn a_page_without_meters_and_one_with_warnings_are_pages_too() {
     let warned = page(&folder, "1000.1\n1000.2\n1000.3\n", "");
     assert!(warned.text().contains("far from zero"), "{warned:?}");
 }
+
+/// The part of a page from its first family on.
+fn sections(page: &str) -> &str {
+    &page[page.find("<section class=\"family").unwrap()..]
+}
+
+#[test]
+fn a_result_file_is_a_page_beside_its_readings() {
+    let folder = Folder::new("page_result");
+    folder.write("r.csv", readings(40));
+    let group = "group r.csv --seed 1 --limit 9 --result r.families";
+    folder.run(&group.split(' ').collect::<Vec<_>>()).text();
+    let grouped = page(&folder, &readings(40), "--limit 9 --tray 8");
+    let words = "page --result r.families --serials r.csv --tray 8 --fail-on-warning";
+    let words: Vec<&str> = words.split(' ').collect();
+    let run = folder.run(&words);
+    let text = run.text();
+    let told = "families: r.csv: a header, serial numbers from <S0>, 40 rows of 3 readings\n";
+    assert_eq!(run.errors, told);
+    let file = "<p class=\"file\">families of the result file r.families, readings of r.csv</p>";
+    assert_eq!(count(text, file), 1);
+    // Sections are those of the grouping's page, but for what is said of the limit.
+    let plain = grouped.text().replace(", at the limit<", "<");
+    assert_eq!(sections(text), sections(&plain));
+    for word in ["splits", "unplaced", "seed", "limit", "budget"] {
+        assert_eq!(count(text, &format!("<dt>{word}")), 0, "{word}");
+    }
+    let sizes = text.split("<span>").skip(1);
+    let sizes: Vec<usize> = sizes
+        .map(|rest| rest.split('<').next().unwrap().parse().unwrap())
+        .collect();
+    let largest = *sizes.iter().max().unwrap();
+    let full = format!("a full bar is the largest family of {largest} meters.");
+    assert_eq!(count(text, &full), 1);
+    let full = sizes.iter().filter(|size| **size == largest).count();
+    assert_eq!(count(text, "style=\"width:100%\""), full);
+
+    let output: Vec<&str> = words
+        .iter()
+        .copied()
+        .chain(["--output", "p.html"])
+        .collect();
+    assert_eq!(folder.run(&output).text(), "");
+    let page = fs::read_to_string(folder.path().join("p.html")).unwrap();
+    assert_eq!(page, text);
+    for over in ["r.csv", "r.families"] {
+        let output: Vec<&str> = words.iter().copied().chain(["--output", over]).collect();
+        folder.run(&output).fails(2, &[over, "not written over"]);
+    }
+}
+
+#[test]
+fn a_result_file_takes_no_settings_and_needs_its_readings() {
+    let folder = Folder::new("page_result_usage");
+    let fails = |line: &str, words: &[&str]| {
+        let line: Vec<&str> = line.split(' ').collect();
+        folder.run(&line).fails(2, words);
+    };
+    for setting in [
+        "r.csv",
+        "--limit 40",
+        "--branching 4",
+        "--weight 0.25",
+        "--budget 8192",
+        "--seed 1",
+        "--draws 256",
+        "--allow-unplaced",
+        "--spherical",
+    ] {
+        let line = format!("page --result r.families --serials r.csv {setting}");
+        fails(&line, &["--result", "cannot be used with"]);
+    }
+    fails("page --result r.families", &["--serials <READINGS.csv>"]);
+    fails(
+        "page r.csv --serials r.csv",
+        &["--serials", "cannot be used with"],
+    );
+    fails("page --serials r.csv", &["--result <FILE>"]);
+    fails("page --tray 8", &["<READINGS.csv>"]);
+}

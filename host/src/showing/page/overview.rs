@@ -4,29 +4,55 @@ use super::spread::Spreads;
 use super::text::{count, short};
 use crate::answers::report::{Family, Report};
 
-/// Bars of all families' sizes against the limit, each a way to its family's section.
+/// Bars of all families' sizes, each a way to its family's section.
 pub fn overview(report: &Report, spreads: &Spreads) -> String {
-    let families = &report.grouping.families;
+    let families = &report.families;
     if families.is_empty() {
         return String::from(
             "<section class=\"overview\" id=\"overview\">\n<h2>Overview</h2>\n\
              <p>There are no meters, and so no families.</p>\n</section>\n",
         );
     }
-    let limit = report.settings.limit as usize;
+    let full = Full::of(report);
     let bars: String = families
         .iter()
         .enumerate()
-        .map(|(number, family)| bar(number, family, limit, spreads.is_odd(number)))
+        .map(|(number, family)| bar(number, family, &full, spreads.is_odd(number)))
         .collect();
     format!(
         "<section class=\"overview\" id=\"overview\">\n<h2>Overview</h2>\n{}{}\
-         <p class=\"key\">Meters in each family; a full bar is the limit of {}.</p>\n\
+         <p class=\"key\">Meters in each family; a full bar is {} of {}.</p>\n\
          <ol class=\"bars\">\n{bars}</ol>\n</section>\n",
         odd_families(spreads),
         how_to_read(report),
-        count(limit, "meter", "meters"),
+        full.what,
+        count(full.meters, "meter", "meters"),
     )
+}
+
+/// The meters of a full bar: the limit, or the largest family where no limit is known.
+struct Full {
+    meters: usize,
+    what: &'static str,
+    is_limit: bool,
+}
+
+impl Full {
+    fn of(report: &Report) -> Full {
+        let sizes = report.families.iter().map(|family| family.rows.len());
+        match report.limit() {
+            Some(limit) => Full {
+                meters: limit,
+                what: "the limit",
+                is_limit: true,
+            },
+            None => Full {
+                meters: sizes.max().unwrap_or(0),
+                what: "the largest family",
+                is_limit: false,
+            },
+        }
+    }
 }
 
 /// Which families to look at first, and why.
@@ -68,13 +94,17 @@ fn how_to_read(report: &Report) -> String {
     )
 }
 
-fn bar(number: usize, family: &Family, limit: usize, odd: bool) -> String {
-    let size = family.rows.len();
-    let over = size > limit;
-    let percent = if size >= limit {
+fn bar(number: usize, family: &Family, full: &Full, odd: bool) -> String {
+    let (size, meters) = (family.rows.len(), full.meters);
+    let over = size > meters;
+    let percent = if size >= meters {
         100.0
     } else {
-        (1000.0 * size as f64 / limit as f64).round() / 10.0
+        (1000.0 * size as f64 / meters as f64).round() / 10.0
+    };
+    let held = match full.is_limit {
+        true => format!("{size} of {meters} meters"),
+        false => count(size, "meter", "meters"),
     };
     let (class, kind) = if odd {
         (" class=\"notable\"", "Odd family")
@@ -88,8 +118,8 @@ fn bar(number: usize, family: &Family, limit: usize, odd: bool) -> String {
         (false, false) => "",
     };
     format!(
-        "<li><a{class} href=\"#family-{number}\" aria-label=\"{kind} {number}: {size} of {limit} \
-         meters\"><b>{number}</b><i><i style=\"width:{percent}%\"></i></i>\
+        "<li><a{class} href=\"#family-{number}\" aria-label=\"{kind} {number}: {held}\">\
+         <b>{number}</b><i><i style=\"width:{percent}%\"></i></i>\
          <span>{size}</span><em>{words}</em></a></li>\n"
     )
 }

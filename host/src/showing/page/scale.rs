@@ -25,7 +25,7 @@ pub struct Scale {
 impl Scale {
     /// The scale that holds every finite reading and mean of a report.
     pub fn of(report: &Report) -> Scale {
-        let means = report.grouping.families.iter().flat_map(|it| &it.mean);
+        let means = report.families.iter().flat_map(|it| &it.mean);
         Scale::over(report.table.values.iter().chain(means).copied())
     }
 

@@ -7,7 +7,7 @@ use crate::answers::report::{Family, Report};
 
 /// The section of a family by its number.
 pub fn section(report: &Report, chart: &Chart, spreads: &Spreads, number: usize) -> String {
-    let family = &report.grouping.families[number];
+    let family = &report.families[number];
     let class = if spreads.is_odd(number) {
         "family odd"
     } else {
@@ -24,12 +24,11 @@ pub fn section(report: &Report, chart: &Chart, spreads: &Spreads, number: usize)
 }
 
 fn heading(report: &Report, spreads: &Spreads, number: usize) -> String {
-    let size = report.grouping.families[number].rows.len();
-    let limit = report.settings.limit as usize;
-    let full = match size.cmp(&limit) {
-        std::cmp::Ordering::Less => String::new(),
-        std::cmp::Ordering::Equal => String::from(", at the limit"),
-        std::cmp::Ordering::Greater => format!(", over the limit of {limit}"),
+    let size = report.families[number].rows.len();
+    let full = match report.limit() {
+        Some(limit) if size == limit => String::from(", at the limit"),
+        Some(limit) if size > limit => format!(", over the limit of {limit}"),
+        _ => String::new(),
     };
     let spread = short(spreads.each[number]);
     let verdict = match spreads.median {
@@ -66,7 +65,7 @@ fn mean(report: &Report, family: &Family) -> String {
 
 /// The family's meters in its order, each with how far it is from the mean.
 fn meters(report: &Report, number: usize) -> String {
-    let family = &report.grouping.families[number];
+    let family = &report.families[number];
     let serials = report.table.serials.as_ref();
     let lines: String = family
         .rows

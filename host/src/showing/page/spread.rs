@@ -17,7 +17,7 @@ pub struct Spreads {
 impl Spreads {
     /// Measures every family of a report.
     pub fn of(report: &Report) -> Spreads {
-        let families = report.grouping.families.iter();
+        let families = report.families.iter();
         let each: Vec<f64> = families
             .map(|family| distance(&family.rows, family, &report.table))
             .collect();

@@ -2,7 +2,8 @@
 
 use super::html;
 use crate::answers::draws::Draws;
-use crate::answers::report::{Family, Grouping, Report};
+use crate::answers::report::tests::grouped;
+use crate::answers::report::{Family, Grouped, Origin, Report};
 use crate::answers::settings::Settings;
 use crate::reading::table::Table;
 
@@ -19,6 +20,22 @@ fn report(rows: &[&[f32]], groups: &[&[usize]]) -> Report {
     });
     Report {
         source: String::from("readings.csv"),
+        origin: Origin::Grouped(Grouped {
+            settings: Settings {
+                limit: 4,
+                branching: 3,
+                weight: 0.5,
+                budget: 77,
+            },
+            draws: Draws {
+                seed: 987_654_321,
+                count: 5555,
+            },
+            allow_unplaced: false,
+            spherical: false,
+            splits: 6,
+            unplaced: 0,
+        }),
         table: Table {
             rows: rows.len(),
             readings,
@@ -26,24 +43,8 @@ fn report(rows: &[&[f32]], groups: &[&[usize]]) -> Report {
             serials: Some((0..rows.len()).map(|row| format!("MF-{row}")).collect()),
             names: Some((0..readings).map(|it| format!("I{it}")).collect()),
         },
-        settings: Settings {
-            limit: 4,
-            branching: 3,
-            weight: 0.5,
-            budget: 77,
-        },
-        draws: Draws {
-            seed: 987_654_321,
-            count: 5555,
-        },
         tray: 2,
-        allow_unplaced: false,
-        spherical: false,
-        grouping: Grouping {
-            families: families.collect(),
-            splits: 6,
-            unplaced: 0,
-        },
+        families: families.collect(),
         warnings: vec![],
     }
 }
@@ -300,7 +301,7 @@ fn head_tells_the_result_and_the_settings() {
 fn head_tells_that_families_go_by_shape_where_they_do() {
     let mut report = sample();
     let plain = html(&report);
-    report.spherical = true;
+    grouped(&mut report).spherical = true;
     let fact = "<div><dt>spherical</dt><dd>families by shape</dd></div>";
     let page = html(&report);
     assert_eq!(times(&page, fact), 1);
@@ -310,7 +311,7 @@ fn head_tells_that_families_go_by_shape_where_they_do() {
 #[test]
 fn head_tells_of_unplaced_rows_as_summed_over_splits() {
     let mut report = sample();
-    report.grouping.unplaced = 41;
+    grouped(&mut report).unplaced = 41;
     let page = html(&report);
     check_page(&page);
     let fact = "<dt>unplaced rows, summed over splits</dt><dd>41</dd>";
@@ -340,19 +341,64 @@ fn bars_are_sizes_against_the_limit() {
     let full: Vec<String> = widths(&report);
     assert_eq!(full, ["75%", "50%"]);
     for (limit, expected) in [(3, "100%"), (2, "100%"), (0, "100%"), (4096, "0.1%")] {
-        report.settings.limit = limit;
+        grouped(&mut report).settings.limit = limit;
         assert_eq!(widths(&report)[0], expected);
     }
-    report.settings.limit = 2;
+    grouped(&mut report).settings.limit = 2;
     assert!(part(&html(&report), 0).contains("3 meters, over the limit of 2<"));
     assert!(part(&html(&report), 1).contains("2 meters, at the limit<"));
+}
+
+/// The page of a result file beside its readings.
+fn of_result_file() -> Report {
+    Report {
+        source: String::from("r<.bin"),
+        origin: Origin::Read {
+            serials: Some(String::from("r&.csv")),
+        },
+        ..sample()
+    }
+}
+
+#[test]
+fn families_of_a_result_file_say_so_and_nothing_of_a_grouping() {
+    let page = html(&of_result_file());
+    check_page(&page);
+    let files =
+        "<p class=\"file\">families of the result file r&lt;.bin, readings of r&amp;.csv</p>";
+    assert_eq!(times(&page, files), 1);
+    assert_eq!(times(&page, "<title>Meter families: r&lt;.bin</title>"), 1);
+    let facts: Vec<&str> = page
+        .split("<dt>")
+        .skip(1)
+        .map(|rest| rest.split('<').next().unwrap())
+        .filter(|name| !name.starts_with('I'))
+        .collect();
+    assert_eq!(facts, ["meters", "families", "meters to a tray"]);
+    let (_, body) = page.split_once("<body>").unwrap();
+    for word in ["limit", "split", "unplaced", "seed", "weight"] {
+        assert!(!body.contains(word), "{word}");
+    }
+    assert_eq!(times(&page, "class=\"meter\""), 5);
+}
+
+#[test]
+fn bars_of_a_result_file_are_sizes_against_the_largest() {
+    let page = html(&of_result_file());
+    let widths: Vec<&str> = quoted(&page, "style=\"width:").collect();
+    assert_eq!(widths, ["100%", "66.7%"]);
+    assert_eq!(
+        times(&page, "a full bar is the largest family of 3 meters."),
+        1
+    );
+    assert!(part(&page, 0).contains("<p>3 meters</p>"));
 }
 
 #[test]
 fn means_give_back_their_values() {
     let mut report = sample();
     let means = [0.1f32 + 0.2, -1.0e-7, 16_777_216.0];
-    report.grouping.families[0].mean = means.to_vec();
+    report.families[0].mean = means.to_vec();
     let page = html(&report);
     let shown: Vec<f32> = part(&page, 0)
         .split("<dd>")
@@ -402,13 +448,13 @@ fn huge_readings_stay_in_the_chart() {
     let rows: [&[f32]; 4] = [&[top, bottom], &[top, bottom], &[0.0, 1.0], &[0.5, 1.0]];
     // The first family's mean overflows.
     let mut report = report(&rows, &[&[0, 1], &[2], &[3]]);
-    assert_eq!(report.grouping.families[0].mean[0], f32::INFINITY);
+    assert_eq!(report.families[0].mean[0], f32::INFINITY);
     let page = html(&report);
     check_page(&page);
     assert!(!page.contains("NaN"));
     assert_eq!(times(&page, " odd\""), 1);
     assert!(part(&page, 0).contains("odd: spread not finite, median 0<"));
-    report.grouping.families[1].mean = vec![f32::NAN, 1.0];
+    report.families[1].mean = vec![f32::NAN, 1.0];
     let page = html(&report);
     check_page(&page);
     assert!(!page.contains("NaN"));
