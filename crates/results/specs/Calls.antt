@@ -38,6 +38,7 @@ unfoldable pub lentTo : List ℕ → Answer Stored → Answer Stored
 lentTo lent (accepted g) = cond (sameAll lent (cellsLent (g .rows) (g .dim))) (accepted g) (refused 2)
 lentTo lent (refused number) = refused number
 
+-- the reader's call, of a file and the lengths of what is lent
 unfoldable pub readCall : List ℕ → List ℕ → Answer Stored
 readCall file lent = lentTo lent (reads file)
 
@@ -46,6 +47,7 @@ abbrev pub told : ReadAnswer → Answer (ℕ × ℕ × ℕ)
 told (Read rows dim groups) = accepted (rows, dim, groups)
 told (Refused number) = refused number
 
+-- what is told of an acceptance
 abbrev pub figures : Stored → ℕ × ℕ × ℕ
 figures g = (g .rows, g .dim, g .groups)
 

@@ -40,9 +40,10 @@ storedIn file =
     let w : ℕ → ℕ = λ i. u32At file (length file - 24 + i) in
     storedAt (w 12) (w 16) (w 20) file
 
+-- a result file: what stands in it is sound, and the writer makes this very file of it
 unfoldable pub isResult : List ℕ → Bool
 isResult file = sound (storedIn file) && sameAll (written (storedIn file)) file
 
--- 10 for anything else
+-- the grouping of a result file, and 10 for anything else
 unfoldable pub reads : List ℕ → Answer Stored
 reads file = cond (isResult file) (accepted (storedIn file)) (refused 10)

@@ -25,9 +25,11 @@ unfoldable pub allPass : (ℕ → Bool) → List ℕ → Bool
 allPass test [] = true
 allPass test (x ∷ l) = test x && allPass test l
 
+-- every cell is v
 abbrev pub allAre : ℕ → List ℕ → Bool
 allAre v l = allPass (λ x. eqb x v) l
 
+-- every cell is below n
 abbrev pub allBelow : ℕ → List ℕ → Bool
 allBelow n l = allPass (λ x. ltb x n) l
 
@@ -63,6 +65,7 @@ contentFits g =
     leb (g .groups) (g .rows) && eachOnce (g .rows) (g .order) && rising 0 (take (g .groups) (g .ends)) (g .rows)
     && allAre blankCell (drop (g .groups) (g .ends)) && allAre 0 (drop (g .groups * g .dim) (g .means))
 
+-- a grouping that a result file can hold, and the only kind that the reader gives: numbers in range, as many cells as they say, and the content as above
 unfoldable pub sound : Stored → Bool
 sound g =
     numbersFit (g .rows) (g .dim) && sameAll (length (g .order) ∷ length (g .ends) ∷ length (g .means) ∷ []) (cellsLent (g .rows) (g .dim)) && contentFits g
