@@ -1,4 +1,4 @@
-//! Links the static library that `rt staticlib exports` writes.
+//! Links the static library that `host/proved` puts there.
 
 use std::path::Path;
 

@@ -9,7 +9,7 @@ use crate::{order, reach};
 use sums::{cells, checks, numbers};
 
 // Listed, or refused by number.
-#[derive(Drop)]
+#[derive(Clone, Copy)]
 pub enum ClosureAnswer {
     // how many cells are listed
     Listed(u16),

@@ -8,7 +8,7 @@ ghost use Rattle.closure.specs.Closure.{in_reach, reach_of};
 use sums::cells;
 
 // What decides how far the closure reaches: made once a call, and passed by value.
-#[derive(Drop)]
+#[derive(Clone, Copy)]
 pub struct Reach {
     pub epsilon: f32,
     pub factor: f32,

@@ -5,7 +5,8 @@ ghost use Rattle.words.specs.Bytes.{floats_from, bytes16};
 ghost use Rattle.labels.specs.declared.mode.Mode.TheVariants.{Strict, OldWay};
 ghost use Rattle.closure.specs.Call.{closure_call};
 ghost use Rattle.batch.specs.Batch.{listing_of, put_front};
-ghost use Rattle.exports.specs.Exports.{Gave, label_refusal as label_refusal_lem, placement_of, label_by, label_call, closure_refusal as closure_refusal_lem, closure_bytes_call, closure_written};
+ghost use Rattle.exports.specs.Exports.{Gave, label_refusal as label_refusal_lem, placement_of, label_by, label_call};
+ghost use Rattle.exports.specs.Exports.{closure_refusal as closure_refusal_lem, closure_bytes_call, closure_written};
 
 use closure::call::ClosureAnswer;
 use labels::call;
@@ -90,8 +91,7 @@ fn closure_inside(
 }
 
 // The centroids that a row is offered, bytes in and out: 0, or the refusal's number and bytes 255.
-#[unsafe(no_mangle)]
-pub extern "C" fn families_closure(
+pub fn families_closure(
     dim: u32,
     count: u32,
     max_replicas: u16,
@@ -203,14 +203,7 @@ fn label_in(mode: Mode, dim: u32, k: u32, row: &[u8], centroids: &[u8], res: &mu
 }
 
 // The label of one row, bytes in and out: 0, or the refusal's number and bytes 255; 9 for an unplaced row.
-#[unsafe(no_mangle)]
-pub extern "C" fn families_label(
-    dim: u32,
-    k: u32,
-    row: &[u8],
-    centroids: &[u8],
-    res: &mut [u8],
-) -> u32
+pub fn families_label(dim: u32, k: u32, row: &[u8], centroids: &[u8], res: &mut [u8]) -> u32
     ensures { let n = length res.old in
         Gave (label_call Strict dim k row.now centroids.now n) n bytes16 result res.new }
 {
@@ -218,14 +211,7 @@ pub extern "C" fn families_label(
 }
 
 // The same in the old way: an unplaced row has label 0.
-#[unsafe(no_mangle)]
-pub extern "C" fn families_label_old_way(
-    dim: u32,
-    k: u32,
-    row: &[u8],
-    centroids: &[u8],
-    res: &mut [u8],
-) -> u32
+pub fn families_label_old_way(dim: u32, k: u32, row: &[u8], centroids: &[u8], res: &mut [u8]) -> u32
     ensures { let n = length res.old in
         Gave (label_call OldWay dim k row.now centroids.now n) n bytes16 result res.new }
 {
@@ -233,8 +219,7 @@ pub extern "C" fn families_label_old_way(
 }
 
 // A batch file in, its listing out: how many bytes the listing has. A buffer that is too short gets what fits.
-#[unsafe(no_mangle)]
-pub extern "C" fn families_list(file: &[u8], text: &mut [u8]) -> u32
+pub fn families_list(file: &[u8], text: &mut [u8]) -> u32
     ensures value { result ≡ length (listing_of file.now) }
     ensures text_after { text.new ≡ put_front (listing_of file.now) text.old }
 {

@@ -1,5 +1,7 @@
-// What hosts call: the functions on bytes, those over typed slices, those of the result file, and the root by itself. A slice goes as its
-// pointer and its length; counts are numbers, and each call holds the lengths against them.
+// What hosts call: the functions on bytes, those over typed slices, those of the result file, and the root by itself. Counts are numbers, and
+// each call holds the lengths of its slices against them. C calls each by the export of its name in `exports_c`.
+#![tactic(auto)]
+
 pub mod bytes;
 pub mod result_file;
 pub mod root;

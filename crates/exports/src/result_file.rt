@@ -20,8 +20,7 @@ fn write_code(answer: WriteAnswer) -> u32
 }
 
 // A grouping's file: 0, or the refusal's number, and then every byte is zero.
-#[unsafe(no_mangle)]
-pub extern "C" fn families_write_result(
+pub fn families_write_result(
     rows: u32,
     dim: u32,
     groups: u32,
@@ -65,13 +64,7 @@ fn put_numbers(answer: ReadAnswer, rows: &mut u32, dim: &mut u32, groups: &mut u
 }
 
 // The numbers of a file, by which a host makes the slices that it is read into: 0, or 10 where it is none.
-#[unsafe(no_mangle)]
-pub extern "C" fn families_result_numbers(
-    file: &[u8],
-    rows: &mut u32,
-    dim: &mut u32,
-    groups: &mut u32,
-) -> u32
+pub fn families_result_numbers(file: &[u8], rows: &mut u32, dim: &mut u32, groups: &mut u32) -> u32
     ensures { NumbersGave (reads file.now) result rows.new dim.new groups.new }
 {
     let numbers = reader::result_numbers(file);
@@ -79,8 +72,7 @@ pub extern "C" fn families_result_numbers(
 }
 
 // A file's grouping: 0, or the refusal's number, 10 ahead of 2, and then its cells are blank and its numbers 0.
-#[unsafe(no_mangle)]
-pub extern "C" fn families_read_result(
+pub fn families_read_result(
     file: &[u8],
     order: &mut [u16],
     ends: &mut [u16],

@@ -5,11 +5,12 @@ ghost use Rattle.sums.specs.Sums.{zero32};
 ghost use Rattle.sums.specs.Refusals.{cells_of, Cleared};
 ghost use Rattle.labels.specs.declared.mode.Mode.TheVariants.{Strict, OldWay};
 ghost use Rattle.labels.specs.Label.{distances_of};
-ghost use Rattle.labels.specs.Call.{label_call as label_call_lem, told as labelsTold};
+ghost use Rattle.labels.specs.Call.{label_call as label_call_lem, told as labels_told};
 ghost use Rattle.kmeans.specs.Call.{kmeans_call, told as kmeans_told};
 ghost use Rattle.grouping.specs.Answers.{told as groups_told};
 ghost use Rattle.grouping.specs.Call.{grouping_call};
-ghost use Rattle.exports.specs.Exports.{code_of, figure_of, LabelsGave, on_by as on_by_lem, config_of as config_of_lem, KMeansGave, settings_of as settings_of_lem, GroupGave};
+ghost use Rattle.exports.specs.Exports.{code_of, figure_of, LabelsGave, on_by as on_by_lem, config_of as config_of_lem};
+ghost use Rattle.exports.specs.Exports.{KMeansGave, settings_of as settings_of_lem, GroupGave};
 
 use grouping::config::GroupingConfig;
 use grouping::waiting::GroupingAnswer;
@@ -21,8 +22,8 @@ use labels::mode::Mode;
 
 // The number of unplaced rows, apart from the call: its slices would be followed through both cases of the answer.
 fn put_unplaced(answer: LabelAnswer, unplaced: &mut u32) -> u32
-    ensures value { result ≡ code_of (labelsTold answer) }
-    ensures unplaced_after { unplaced.new ≡ figure_of 0 (λ (n : ℕ). n) (labelsTold answer) }
+    ensures value { result ≡ code_of (labels_told answer) }
+    ensures unplaced_after { unplaced.new ≡ figure_of 0 (λ (n : ℕ). n) (labels_told answer) }
 {
     match answer {
         LabelAnswer::Labelled(n) => {
@@ -55,8 +56,7 @@ fn label_rows_in(
 }
 
 // Labelling of many rows, over typed slices: 0, or the refusal's number, 9 where a row is unplaced; the unplaced rows are 0 after a refusal.
-#[unsafe(no_mangle)]
-pub extern "C" fn families_label_rows(
+pub fn families_label_rows(
     rows: u32,
     dim: u32,
     k: u32,
@@ -81,8 +81,7 @@ pub extern "C" fn families_label_rows(
 }
 
 // The same in the old way: unplaced rows have label 0, and are counted.
-#[unsafe(no_mangle)]
-pub extern "C" fn families_label_rows_old_way(
+pub fn families_label_rows_old_way(
     rows: u32,
     dim: u32,
     k: u32,
@@ -127,8 +126,7 @@ fn place_rows_in(
 }
 
 // Labelling with each row's distance, +0.0 after a refusal.
-#[unsafe(no_mangle)]
-pub extern "C" fn families_place_rows(
+pub fn families_place_rows(
     rows: u32,
     dim: u32,
     k: u32,
@@ -156,8 +154,7 @@ pub extern "C" fn families_place_rows(
 }
 
 // The same in the old way: the distance is infinite exactly where the row is unplaced.
-#[unsafe(no_mangle)]
-pub extern "C" fn families_place_rows_old_way(
+pub fn families_place_rows_old_way(
     rows: u32,
     dim: u32,
     k: u32,
@@ -268,8 +265,7 @@ fn kmeans_in(
 
 // K-means over typed slices: 0, or the refusal's number, 9 where the restart kept leaves a row unplaced; the objective, the restart kept and
 // its unplaced rows are +0.0, 0 and 0 after a refusal.
-#[unsafe(no_mangle)]
-pub extern "C" fn families_kmeans(
+pub fn families_kmeans(
     rows: u32,
     dim: u32,
     k: u32,
@@ -313,8 +309,7 @@ pub extern "C" fn families_kmeans(
 }
 
 // The same in the old way.
-#[unsafe(no_mangle)]
-pub extern "C" fn families_kmeans_old_way(
+pub fn families_kmeans_old_way(
     rows: u32,
     dim: u32,
     k: u32,
@@ -437,8 +432,7 @@ fn group_by(
 }
 
 // Grouping over typed slices: 0, or the refusal's number, 9 where a split leaves a row unplaced; the counts are 0 after a refusal.
-#[unsafe(no_mangle)]
-pub extern "C" fn families_group(
+pub fn families_group(
     rows: u32,
     dim: u32,
     limit: u32,
@@ -473,8 +467,7 @@ pub extern "C" fn families_group(
 }
 
 // The same in the old way: the unplaced rows are summed over the splits.
-#[unsafe(no_mangle)]
-pub extern "C" fn families_group_old_way(
+pub fn families_group_old_way(
     rows: u32,
     dim: u32,
     limit: u32,

@@ -67,7 +67,7 @@ fitting rows dim config draws values order ends means gathered training e =
       room = rw o (record {
         limits = ((r.some_dim, r.small_dim), ((r.some, r.few), r.few_rows));
         value_cells = cc;
-        gathered-cells = cc;
+        gathered_cells = cc;
         training_cells = cc;
       });
       end_cells = cc;

@@ -17,7 +17,7 @@ use Rattle.grouping.specs.Answers.{figures, told}
 -- 01's ranges, and room for so many rows: how long the readings, the rows gathered and the training rows are
 abbrev pub Room : ℕ → ℕ → ℕ → ℕ → ℕ → ℕ → Type 0
 Room dim k rows values gathered training =
-    record { limits : Limits dim k rows; value_cells : values ≡ rows * dim; gathered-cells : gathered ≡ rows * dim; training_cells : training ≡ rows * dim }
+    record { limits : Limits dim k rows; value_cells : values ≡ rows * dim; gathered_cells : gathered ≡ rows * dim; training_cells : training ≡ rows * dim }
 
 -- what became of a group whose k-means was run: the number that its unplaced rows refuse it by, 0 for none (02 (iii)); and then its stretch holds the parts
 -- (01, 'Grouping'), with their sizes. The cursor stands where k-means left it, and the unplaced rows are told (02 (ii)), no more than there may be rows.

@@ -13,7 +13,7 @@ use crate::{means, waiting};
 use sums::{cells, checks, rooms};
 
 // The lengths of what a call is lent.
-#[derive(Drop)]
+#[derive(Clone, Copy)]
 pub struct Lent {
     pub values: usize,
     pub order: usize,

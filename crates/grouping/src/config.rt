@@ -1,7 +1,7 @@
 // The settings of a grouping (the source's HierarchicalClustering).
 use labels::mode::Mode;
 
-#[derive(Drop)]
+#[derive(Clone, Copy)]
 pub struct GroupingConfig {
     // a group of at most so many rows is finished
     pub limit: u32,

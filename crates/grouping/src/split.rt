@@ -37,7 +37,7 @@ fn balance_if(
 }
 
 // The number that refuses the group, 0 for none; where k-means left the draws, and how many of the group's rows it left unplaced.
-#[derive(Drop)]
+#[derive(Clone, Copy)]
 pub struct Divided {
     pub number: u32,
     pub cursor: Cursor,

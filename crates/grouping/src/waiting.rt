@@ -16,7 +16,7 @@ use sums::draws::Cursor;
 use sums::{cells, numbers};
 
 // The numbers of groups and of splits and the unplaced rows summed over the splits, or the number of the refusal.
-#[derive(Drop)]
+#[derive(Clone, Copy)]
 pub enum GroupingAnswer {
     Accepted {
         groups: u32,

@@ -4,9 +4,9 @@ use mathlib.Core.Bool.{Bool}
 use mathlib.Core.List.{List, [], ◌∷◌}
 use Prim.Native.Nat.{ℕ, zero, suc}
 use native.Mathlib.Nat.{suc_inj, suc-ne-zero}
-use lib.ListN.{length, replicate, length-set, length-replicate}
+use lib.ListN.{length, replicate, get_or, set, length-set, length-replicate}
 use Rattle.sums.specs.Rows.{Row}
-use Rattle.sums.specs.Sums.{zero_row}
+use Rattle.sums.specs.Sums.{zero_row, add_row}
 use Rattle.sphere.proofs.Units.{sphered_length}
 use Rattle.labels.specs.declared.nearest.Placement.{Placement}
 use Rattle.labels.specs.Label.{nearests}
@@ -21,7 +21,7 @@ sums_length : (sums : List Row) (labels : List ℕ) (rows : List Row) → length
 unfolding sums_from
 sums_length sums [] rows = refl
 sums_length sums (l ∷ labels) [] = refl
-sums_length sums (l ∷ labels) (r ∷ rows) = sums_length _ labels rows ∙ length-set sums l _
+sums_length sums (l ∷ labels) (r ∷ rows) = sums_length (set sums l (add_row (get_or sums l []) r)) labels rows ∙ length-set sums l _
 
 from_length : (draws : List ℕ) (training : List Row) (n : ℕ) (pool counts : List ℕ) (sums : List Row) → length sums ≡ length counts → length (update_from draws training n pool counts sums) ≡ length counts
 unfolding update_from

@@ -12,7 +12,7 @@ use sums::draws::Cursor;
 use sums::{cells, checks};
 
 // Accepted with the objective, the number of the restart kept and its unplaced rows, or refused by number.
-#[derive(Drop)]
+#[derive(Clone, Copy)]
 pub enum KMeansAnswer {
     Accepted {
         objective: f64,
@@ -36,7 +36,7 @@ fn ranges_fit(rows: u32, dim: u32, k: u32, config: KMeansConfig) -> bool
 }
 
 // The lengths of what a call is lent.
-#[derive(Drop)]
+#[derive(Clone, Copy)]
 pub struct Lent {
     pub values: usize,
     pub labels: usize,

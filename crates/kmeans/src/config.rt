@@ -2,7 +2,7 @@
 ghost use Rattle.std.specs.Prelude.{◌≡◌};
 ghost use Rattle.kmeans.specs.KMeans.{usual, for_grouping as for_grouping_lem};
 
-#[derive(Drop)]
+#[derive(Clone, Copy)]
 pub struct KMeansConfig {
     pub niter: u32,
     pub nredo: u32,
@@ -49,7 +49,7 @@ impl KMeansConfig {
 
 // What every step of a run knows: the values of a row, the clusters, the iterations to be made, the rows of a block, and
 // whether centroids are brought to length one.
-#[derive(Drop)]
+#[derive(Clone, Copy)]
 pub struct Plan {
     pub dim: usize,
     pub k: usize,

@@ -82,7 +82,7 @@ fn refills_repeat(counts: &[u16], new: &[u16], old: &[u16]) -> bool
 }
 
 // Whether nothing more would change, the place in the draws, and how many positions are at hand.
-#[derive(Drop)]
+#[derive(Clone, Copy)]
 pub struct Iterated {
     pub settled: bool,
     pub cursor: Cursor,

@@ -12,14 +12,14 @@ use sums::draws::Cursor;
 use sums::{cells, draws, numbers, rooms};
 
 // What the final labelling of a restart comes to: the objective, and how many rows are unplaced.
-#[derive(Drop)]
+#[derive(Clone, Copy)]
 pub struct Scored {
     pub objective: f64,
     pub unplaced: u32,
 }
 
 // The restart kept so far, with its own unplaced rows, and the place in the draws.
-#[derive(Drop)]
+#[derive(Clone, Copy)]
 pub struct Kept {
     pub objective: f64,
     pub restart: u32,

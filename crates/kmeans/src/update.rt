@@ -25,7 +25,7 @@ fn scale(dst: &mut [f32], from: &[f32], count: u16)
 }
 
 // What empty clusters are filled from: how many pool rows were used, and the place in the draws.
-#[derive(Drop)]
+#[derive(Clone, Copy)]
 pub struct Refill {
     pub used: usize,
     pub cursor: Cursor,

@@ -10,7 +10,7 @@ use crate::{mode, nearest};
 use sums::{cells, checks, numbers};
 
 // Labelled, with the number of unplaced rows; or refused by number.
-#[derive(Drop)]
+#[derive(Clone, Copy)]
 pub enum LabelAnswer {
     Labelled(u32),
     // the refusal's number

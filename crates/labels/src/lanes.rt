@@ -17,7 +17,7 @@ fn lane16(acc: &mut [f32; 16], x: f32, panel: &[f32], at: usize)
 }
 
 // The dots of two rows with the columns of one panel.
-#[derive(Drop)]
+#[derive(Clone, Copy)]
 pub struct DotsPair {
     pub first: [f32; 16],
     pub second: [f32; 16],

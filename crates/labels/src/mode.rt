@@ -3,7 +3,7 @@ ghost use Rattle.std.specs.Prelude.{◌≡◌};
 ghost use Rattle.labels.specs.Mode.{unplaced_refusal as unplaced_refusal_lem};
 
 // Every call names one of the two.
-#[derive(Drop)]
+#[derive(Clone, Copy)]
 pub enum Mode {
     // a call with an unplaced row is refused
     Strict,

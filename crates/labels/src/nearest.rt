@@ -3,28 +3,29 @@ ghost use Rattle.std.specs.Prelude.{◌≡◌, ◌&&◌, [], ◌∷◌, ◌+◌,
 ghost use Rattle.sums.specs.Rows.{rows_from};
 ghost use Rattle.sums.specs.Tables.{tabulate};
 ghost use Rattle.sums.specs.Sums.{infinity as infinity_lem};
-ghost use Rattle.labels.specs.Label.{score_from, better as better_lem, placement, nearests, label_in as label_in_lem, distance_in as distance_in_lem, unplaced_of};
+ghost use Rattle.labels.specs.Label.{score_from, better as better_lem, placement, nearests};
+ghost use Rattle.labels.specs.Label.{label_in as label_in_lem, distance_in as distance_in_lem, unplaced_of};
 ghost use Rattle.labels.specs.Inside.{norms_of, scanned, by_panels, placed_by, Assigned, Assignable};
 
 use crate::lanes;
 use sums::{numbers, rooms};
 
 // A cluster, and the score of a row against it.
-#[derive(Drop)]
+#[derive(Clone, Copy)]
 pub struct Nearest {
     pub label: u16,
     pub distance: f32,
 }
 
 // What a row's search answers: its nearest cluster, and the score against it; or that no score is below infinity.
-#[derive(Drop)]
+#[derive(Clone, Copy)]
 pub enum Placement {
     Placed { label: u16, distance: f32 },
     Unplaced,
 }
 
 // Of the rows so far: whether every label is the one that stood there before, and how many rows are unplaced.
-#[derive(Drop)]
+#[derive(Clone, Copy)]
 pub struct Tally {
     pub same: bool,
     pub unplaced: usize,

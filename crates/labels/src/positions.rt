@@ -2,15 +2,15 @@
 ghost use Rattle.std.specs.Prelude.{◌≡◌, ◌+◌, ◌<◌};
 
 // A row's place inside its block.
-#[derive(Drop)]
+#[derive(Clone, Copy)]
 pub struct BlockPosition(pub u16);
 
 // A row's place among the training rows.
-#[derive(Drop)]
+#[derive(Clone, Copy)]
 pub struct TrainingPosition(pub u16);
 
 // A row's number in its batch.
-#[derive(Drop)]
+#[derive(Clone, Copy)]
 pub struct RowNumber(pub u16);
 
 // The block's first row stands at `start`.

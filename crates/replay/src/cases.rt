@@ -5,7 +5,8 @@ ghost use Rattle.std.specs.Float.Ieee.{to_bits};
 ghost use Rattle.sums.specs.Refusals.{same_all};
 ghost use Rattle.words.specs.Bytes.{u32_at, words_from};
 ghost use Rattle.batch.specs.Batch.{listing_of};
-ghost use Rattle.replay.specs.Replay.{label_agrees as label_agrees_lem, closure_agrees as closure_agrees_lem, kmeans_agrees as kmeans_agrees_lem, kmeans_agrees_of};
+ghost use Rattle.replay.specs.Replay.{label_agrees as label_agrees_lem, closure_agrees as closure_agrees_lem};
+ghost use Rattle.replay.specs.Replay.{kmeans_agrees as kmeans_agrees_lem, kmeans_agrees_of};
 
 use crate::same;
 use sums::{bits, checks, numbers};

@@ -1,9 +1,8 @@
 -- The cells that an accepted grouping call leaves are a sound grouping: from what grouping's CellPromises say of them. Assumes nothing.
 use Prim.Native.Nat.{ℕ, zero, suc, ◌+◌, ◌-◌, ◌*◌, ◌≤◌, ◌<◌, suc-le-suc, zero-le}
-use mathlib.Core.Path.{◌≡◌, refl, sym, ap, ◌∙◌}
-use mathlib.Core.Bool.{Bool, true, false, ◌&&◌}
+use mathlib.Core.Path.{◌≡◌, refl, sym, ◌∙◌}
+use mathlib.Core.Bool.{Bool, true, false}
 use mathlib.Core.List.{List, [], ◌∷◌}
-use native.Mathlib.Nat.{not-suc-le-zero, le_of_suc-le-suc}
 use native.Mathlib.Omega.{arith}
 use borrow.Author.Tests.{eqb-true, eqb-false, eq-eqb, leb-true, leb-false, le-leb, lt-ltb}
 use lib.Dec.{eqb, leb}
@@ -11,9 +10,8 @@ use lib.ListN.{length, get_or, take}
 use lib.Seq.{length-take-le, get_or-take}
 use Rattle.sums.specs.Refusals.{blank_cell}
 use Rattle.sums.proofs.Weighs.{weigh, one, count_of}
-use Rattle.results.specs.Grouping.{Stored, times_in, rising, sound}
-use Rattle.results.proofs.Sounds.{Lengths}
-use Rattle.results.proofs.Promises.{Listed, times_count, listed_sound, rise_sizes}
+use Rattle.results.specs.Grouping.{Stored, rising, sound}
+use Rattle.results.proofs.Promises.{times_count, listed_sound, rise_sizes}
 
 -- ---- where each row below n stands once and no more stand there, nothing else does
 -- how many are n or above

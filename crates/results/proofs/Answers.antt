@@ -14,7 +14,7 @@ use Rattle.sums.proofs.Refusing.{both, same_is, same_cons, passed, padded_all, p
 use Rattle.words.specs.Bytes.{u32_at, words_from, halves_from}
 use Rattle.results.specs.Grouping.{Stored, numbers_fit, cells_lent, content_fits, sound}
 use Rattle.results.specs.Files.{file_length, written, stored_at, stored_in, is_result, reads}
-use Rattle.results.specs.Calls.{write_refusal, write_call, write_told, Writes, lent_to, read_call, told, figures, Reads}
+use Rattle.results.specs.Calls.{write_refusal, write_call, Writes, lent_to, read_call, told, figures, Reads}
 use Rattle.results.specs.Inside.{laid_out, holds_rows}
 use Rattle.results.specs.declared.writer.WriteAnswer.TheVariants.{Written, Refused as WriteRefused}
 use Rattle.results.specs.declared.reader.ReadAnswer.TheVariants.{Read, Refused}

@@ -1,8 +1,8 @@
 -- Every accepted grouping is one that the writer takes, whatever the bits of its NaN means. Assumes nothing.
 use mathlib.Core.Path.{◌≡◌, refl, sym, ap, ◌∙◌}
-use mathlib.Core.Bool.{true, false, not, ◌&&◌}
-use mathlib.Core.List.{List, [], ◌∷◌}
-use Prim.Native.Nat.{ℕ, ◌+◌, ◌*◌, ◌≤◌, ◌<◌}
+use mathlib.Core.Bool.{true, not}
+use mathlib.Core.List.{List, ◌∷◌}
+use Prim.Native.Nat.{ℕ, ◌≤◌, ◌<◌}
 use native.Mathlib.Omega.{arith}
 use lib.Dec.{T}
 use lib.Ieee.{Float, nan, binary32, of_bits, to_bits, is_nan}
@@ -17,8 +17,8 @@ use Rattle.grouping.specs.Groups.{Groups}
 use Rattle.grouping.specs.Answers.{told, figures}
 use Rattle.grouping.specs.Call.{ranges_fit}
 use Rattle.grouping.proofs.CallPromises.{passed_exactly, accepted_passed}
-use Rattle.grouping.proofs.CellPromises.{Result, Cells, Means, called, call_cells, call_means}
-use Rattle.results.specs.Grouping.{Stored, sound}
+use Rattle.grouping.proofs.CellPromises.{Result, called, call_cells, call_means}
+use Rattle.results.specs.Grouping.{sound}
 use Rattle.results.proofs.Accepteds.{left_sound}
 
 -- the bits of floats as they stand in memory: a NaN has many patterns, every other float one

@@ -13,9 +13,9 @@ use Rattle.sums.specs.Refusals.{accepted, refused, same_all, lowest_from, unless
 use Rattle.sums.proofs.Refusing.{both, same_is, lowest_none}
 use Rattle.sums.proofs.Tables.{get_d_tab, length_tab, tab_same, tab_const}
 use Rattle.sums.proofs.Weighs.{weigh, one, count_of}
-use Rattle.results.specs.Grouping.{Stored, all_pass, all_are, all_below, times_in, times_each, each_once, rising, numbers_fit, cells_lent, content_fits, sound}
+use Rattle.results.specs.Grouping.{Stored, all_pass, all_are, all_below, times_in, times_each, each_once, rising, numbers_fit, content_fits, sound}
 use Rattle.results.specs.Files.{file_length, written, stored_in, is_result, reads}
-use Rattle.results.specs.Calls.{write_refusal, write_call, lent_to, read_call}
+use Rattle.results.specs.Calls.{write_refusal, write_call}
 use Rattle.results.proofs.Pads.{all_blank, are_blank}
 use Rattle.results.proofs.Sounds.{Lengths, sound_is, sound_numbers, sound_content, is_content}
 use Rattle.results.proofs.Files.{same_refl, stored_back, written_length}

@@ -1,5 +1,5 @@
 -- A file is read exactly when what document 02, (vi), asks of it holds. Assumes nothing.
-use Prim.Native.Nat.{ℕ, zero, suc, ◌+◌, ◌-◌, ◌*◌, ◌≤◌, ◌<◌, suc-le-suc, zero-le}
+use Prim.Native.Nat.{ℕ, suc, ◌+◌, ◌-◌, ◌*◌, ◌≤◌, ◌<◌, suc-le-suc, zero-le}
 use mathlib.Core.Path.{◌≡◌, refl, sym, ap, ◌∙◌}
 use mathlib.Core.Bool.{true, ◌&&◌}
 use mathlib.Core.Logic.{◌↔◌}
@@ -20,7 +20,7 @@ use Rattle.results.specs.Inside.{laid_out, holds_rows}
 use Rattle.results.specs.Calls.{told, figures}
 use Rattle.results.specs.declared.reader.ReadAnswer.TheVariants.{Read}
 use Rattle.results.proofs.Sounds.{numbers_is}
-use Rattle.results.proofs.Answers.{Found, found, is_found, numbers_read, numbered}
+use Rattle.results.proofs.Answers.{found, is_found, numbers_read, numbered}
 use Rattle.results.proofs.Promises.{sizes_from, times_count, once_each, each_once_lem, rise_sizes, sizes_rise}
 use Rattle.results.proofs.Accepteds.{count_none}
 

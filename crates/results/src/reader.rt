@@ -11,7 +11,7 @@ ghost use Rattle.results.specs.declared.reader.ReadAnswer.TheVariants.{Read};
 use crate::marks;
 use sums::{cells, checks, rooms};
 
-#[derive(Drop)]
+#[derive(Clone, Copy)]
 pub enum ReadAnswer {
     Read { rows: u32, dim: u32, groups: u32 },
     // the number of the refusal

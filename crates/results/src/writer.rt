@@ -9,7 +9,7 @@ ghost use Rattle.results.specs.Calls.{write_refusal, write_call, Writes};
 use crate::marks;
 use sums::{cells, checks};
 
-#[derive(Drop)]
+#[derive(Clone, Copy)]
 pub enum WriteAnswer {
     Written,
     // the number of the refusal

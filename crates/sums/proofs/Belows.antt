@@ -1,6 +1,5 @@
 -- Lists of numbers below a bound. Assumes nothing.
-use Rattle.std.proofs.Common.{◌≡◌, ℕ, zero, suc, ◌+◌, ◌-◌, ◌<◌, ◌≤◌, Bool, true, false, cond, ltb, List, [], ◌∷◌, ◌++◌, map, length, get_or, take, drop, sym, refl, ◌∙◌, suc-le-suc, le_of_suc-le-suc, not-suc-le-zero, arith, length-drop, length-take-le, get_or-drop, get_or-take, ltb-false, ltb-true}
-use lib.ListN.{get_or-eq_default}
+use Rattle.std.proofs.Common.{ℕ, zero, suc, ◌+◌, ◌<◌, ◌≤◌, Bool, true, false, cond, List, [], ◌∷◌, ◌++◌, map, length, get_or, take, drop, suc-le-suc, le_of_suc-le-suc, not-suc-le-zero, arith, length-drop, length-take-le, get_or-drop, get_or-take}
 use Rattle.sums.specs.Cells.{inserted, Below}
 use Rattle.sums.specs.Ordering.{place, order_from}
 use Rattle.sums.proofs.Inserts.{inserted_among}

@@ -1,5 +1,5 @@
 -- How often a number stands in a list, under orders and moves. Assumes nothing.
-use Rattle.std.proofs.Common.{◌≡◌, ℕ, zero, suc, ◌+◌, ◌-◌, ◌<◌, ◌≤◌, Bool, true, false, cond, eqb, List, [], ◌∷◌, ◌++◌, map, length, take, sym, refl, ◌∙◌, arith, eq-eqb, ne_eqb, eqb-true}
+use Rattle.std.proofs.Common.{◌≡◌, ℕ, zero, suc, ◌+◌, ◌-◌, ◌<◌, ◌≤◌, Bool, true, false, cond, eqb, List, [], ◌∷◌, map, take, refl, arith, eq-eqb, ne_eqb, eqb-true}
 use native.Mathlib.Decide.{dec_le}
 use borrow.Author.Tests.{eqb-false}
 use Rattle.sums.specs.Cells.{Below}

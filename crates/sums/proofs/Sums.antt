@@ -1,5 +1,5 @@
 -- A turn of a loop that sums: what is left from i on, with one more pair taken. Assumes nothing.
-use Rattle.std.proofs.Common.{◌≡◌, ℕ, suc, ◌+◌, ◌<◌, ◌≤◌, List, [], ◌∷◌, ◌++◌, length, get_or, drop, sym, refl, suc-ne-zero, add-one, drop_of_length-le, drop-cons}
+use Rattle.std.proofs.Common.{◌≡◌, ℕ, ◌+◌, ◌<◌, ◌≤◌, [], ◌∷◌, ◌++◌, length, get_or, drop, sym, refl, suc-ne-zero, add-one, drop_of_length-le, drop-cons}
 use native.Mathlib.Nat.{suc_inj}
 use lib.Ieee.{Float, Format, nan, binary32, add, mul}
 use Rattle.sums.specs.Rows.{Row}

@@ -1,5 +1,5 @@
 -- What small loops over a slice leave in it.
-use Rattle.std.specs.Prelude.{ℕ, ◌+◌, ◌-◌, ◌<◌, List, [], ◌∷◌, ◌++◌, length, take, drop, slice_index, slice_range}
+use Rattle.std.specs.Prelude.{ℕ, ◌+◌, ◌<◌, List, ◌∷◌, ◌++◌, length, take, drop, slice_index, slice_range}
 
 -- v stands at `to`; what stood from there up to `last` has moved up one place, over what stood at `last`
 abbrev pub inserted : {A : Type 0} → List A → ℕ → ℕ → A → List A

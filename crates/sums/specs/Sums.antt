@@ -1,5 +1,5 @@
 -- 01, 'Sums in stated order': every sum starts at +0.0, goes by ascending index, and rounds each term before adding it.
-use Rattle.std.specs.Prelude.{ℕ, true, false, List, [], ◌∷◌, replicate, pos, Float}
+use Rattle.std.specs.Prelude.{ℕ, false, [], ◌∷◌, replicate, pos, Float}
 use Rattle.std.specs.Float.{Format, fin, inf, binary32, binary64}
 use Rattle.std.specs.Float.Ieee.{add, sub, mul, of_int}
 use Rattle.sums.specs.Rows.{Row}

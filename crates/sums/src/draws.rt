@@ -7,14 +7,14 @@ ghost use Rattle.sums.specs.Draws.{drawn, cursor_at, exchanges_from, Drawn};
 use crate::{cells, numbers};
 
 // The place in the draw list, and how often the list was gone through before.
-#[derive(Drop)]
+#[derive(Clone, Copy)]
 pub struct Cursor {
     pub at: usize,
     pub pass: u32,
 }
 
 // A number drawn, and the place after it.
-#[derive(Drop)]
+#[derive(Clone, Copy)]
 pub struct Draw {
     pub number: u32,
     pub next: Cursor,

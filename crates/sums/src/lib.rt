@@ -1,5 +1,7 @@
 // The lowest layer: sums in stated order, draws, and the small loops over slices that every layer above leans on. How many values, cells or
 // draws there are is the length of their slice.
+#![tactic(auto)]
+
 pub mod bits;
 pub mod cells;
 pub mod checks;

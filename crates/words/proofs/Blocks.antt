@@ -6,7 +6,7 @@ use native.Mathlib.Numerals.{add-one}
 use native.Mathlib.Nat.{suc-mul, zero-mul}
 use native.Mathlib.Omega.{arith}
 use lib.ListN.{length, get_or, set, take, drop, length-append, length-drop}
-use lib.Seq.{drop-cons, take-suc, take_all, take_at, drop_at, take-add, length-take-le, sets-eq}
+use lib.Seq.{take-suc, take_all, take_at, drop_at, take-add, length-take-le, sets-eq}
 use Rattle.sums.specs.Tables.{tabulate}
 use Rattle.sums.specs.Cells.{Below}
 use Rattle.sums.specs.Rows.{rows_from}

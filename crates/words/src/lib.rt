@@ -1,4 +1,6 @@
 // Numbers of 16 and 32 bits and floats out of little-endian bytes, and numbers into bytes: what files and exported functions are read and written by.
+#![tactic(auto)]
+
 ghost use Rattle.std.specs.Prelude.{◌≡◌, ◌+◌, ◌*◌, ◌≤◌, ◌<◌, length, take, drop};
 ghost use mathlib.Core.List.{◌++◌, flat_map};
 ghost use Rattle.words.specs.Bytes.{u16_at as u16_at_lem, u32_at, halves_from, floats_from, words_from, bytes16, bytes32};

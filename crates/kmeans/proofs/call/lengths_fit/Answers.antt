@@ -1,0 +1,19 @@
+use Rattle.kmeans.specs.Call.{lengths_fit}
+use Rattle.sums.proofs.Refusing.{and_same}
+use Rattle.sums.specs.Refusals.{same_all}
+use mathlib.Core.Path.{refl, ◌∙◌}
+use native.Mathlib.Nat.{mul-le-mul}
+use native.Mathlib.Omega.{arith}
+use Rattle.kmeans.proofs.call.lengths_fit.Goals as goal
+
+pub overflow_mul-cells : goal.overflow_mul-cells
+overflow_mul-cells c = omega (arith, mul-le-mul c.requires.0 c.requires.1.0)
+
+pub overflow_mul-k : goal.overflow_mul-k
+overflow_mul-k c = omega (arith, mul-le-mul c.requires.1.1 c.requires.1.0)
+
+pub returns : goal.returns
+unfolding lengths_fit same_all
+returns c =
+    c.both.ensures ∙ and_same c.same-4.ensures (c.both-c.ensures ∙ and_same c.same-3.ensures
+    (c.both-b.ensures ∙ and_same c.same-2.ensures (c.both-a.ensures ∙ and_same c.same.ensures refl)))

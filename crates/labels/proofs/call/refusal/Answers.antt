@@ -1,0 +1,30 @@
+use mathlib.Core.Bool.{true, ◌&&◌}
+use mathlib.Core.Path.{◌≡◌, sym, ◌∙◌}
+use Rattle.sums.specs.Refusals.{within, lowest_from}
+use Rattle.sums.proofs.Refusing.{both, within_is}
+use Rattle.labels.specs.Call.{label_refusal}
+use Rattle.labels.proofs.call.refusal.Goals as goal
+use Rattle.labels.proofs.call.refusal.Goals.{Else-not-ranges_fit}
+
+-- the first test passed, in the definition's words
+in_range : (c : Else-not-ranges_fit) → let a = c.args in (within 0 4096 a.rows && within 1 64 a.dim && within 1 64 a.k) ≡ true
+in_range c = sym c.ranges_fit.ensures ∙ c.if-not-ranges_fit.false
+
+pub returns-then-not-ranges_fit : goal.returns-then-not-ranges_fit
+unfolding label_refusal lowest_from
+returns-then-not-ranges_fit c = rw (← c.ranges_fit.ensures, c.if-not-ranges_fit.true)
+
+pub lengths_fit-requires : goal.lengths_fit-requires
+lengths_fit-requires c =
+    let a = c.args in
+    let g = both _ _ (in_range (goal.at.lengths_fit-requires c).Else-not-ranges_fit) in
+    let f = both _ _ g.0 in
+    ((within_is 0 4096 a.rows f.0).1, ((within_is 1 64 a.dim f.1).1, (within_is 1 64 a.k g.1).1))
+
+pub returns-then-not-lengths_fit : goal.returns-then-not-lengths_fit
+unfolding label_refusal lowest_from
+returns-then-not-lengths_fit c = rw (in_range (goal.at.returns-then-not-lengths_fit c).Else-not-ranges_fit, ← c.lengths_fit.ensures, c.if-not-lengths_fit.true)
+
+pub returns : goal.returns
+unfolding label_refusal lowest_from
+returns c = rw (in_range (goal.at.returns c).Else-not-ranges_fit, ← c.lengths_fit.ensures, c.if-not-lengths_fit.false)
