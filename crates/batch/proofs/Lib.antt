@@ -1,5 +1,4 @@
 -- Laws of the batch file and its listing.
-pub mod Shapes
 pub mod Decimals
 pub mod Puts
 pub mod Joins

@@ -20,10 +20,12 @@ use Rattle.sums.proofs.Rows.{rows_length}
 use Rattle.sums.proofs.Orders.{InOrder, order_length}
 use Rattle.sums.proofs.Refusing.{both, padded_length, padded_at, padded_past}
 use Rattle.sums.proofs.Whens.{not_both, fails_exactly, later_exactly, accepted_exactly as accepted_exactly_lem, refused_by, one_or_two}
-use Rattle.closure.specs.declared.call.ClosureAnswer.{ClosureAnswer}
-use Rattle.closure.specs.declared.call.ClosureAnswer.TheVariants.{Listed, Refused}
+use Rattle.std.specs.Prelude.{Result, Ok}
+use Rattle.sums.specs.declared.refusals.Refusal.{Refusal}
+use Rattle.sums.specs.Refused.{told}
+use Rattle.sums.proofs.Told.{told_same}
 use Rattle.closure.specs.Closure.{nearer, reach_of, distances, closure, unordered}
-use Rattle.closure.specs.Call.{closure_refusal, answered, closure_call, told, Gives}
+use Rattle.closure.specs.Call.{closure_refusal, answered, closure_call, Gives}
 use Rattle.sums.proofs.Pairs.{Pairs, all_at, pairs_at, pairs_in_order}
 use Rattle.closure.proofs.Laws.{answered_nan, answered_list}
 use Rattle.closure.proofs.Nearer.{ordered, listed_all, listed_pairs, listed_le, listed_within, order_below, order_apart, order_behind, first_in, is_first}
@@ -85,16 +87,10 @@ front_one : (l : List ℕ) (c : ℕ) → take 1 l ≡ c ∷ [] → (0 < length l
 front_one [] c e = let z : ◌≡◌ {A = ℕ} 0 1 = ap length e in absurd (omega arith)
 front_one (x ∷ l) c e = (omega arith, cc)
 
-same_told : (r r' : ClosureAnswer) → told r ≡ told r' → r ≡ r'
-same_told (Listed n) (Listed m) e = cc
-same_told (Listed n) (Refused m) e = cc
-same_told (Refused n) (Listed m) e = cc
-same_told (Refused n) (Refused m) e = cc
-
 -- Any two results that the contract allows of a call are equal: the answer, and every cell that was lent.
-pub same_result : (answer : Answer (List ℕ)) (n : ℕ) (r r' : ClosureAnswer) (cells cells' : List ℕ)
+pub same_result : (answer : Answer (List ℕ)) (n : ℕ) (r r' : Result ℕ Refusal) (cells cells' : List ℕ)
     → Gives answer n r cells → Gives answer n r' cells' → (r ≡ r') × (cells ≡ cells')
-same_result answer n r r' cells cells' g g' = (same_told r r' (g.result ∙ sym g'.result), g.listing ∙ sym g'.listing)
+same_result answer n r r' cells cells' g g' = (told_same (λ (count : ℕ). count) (λ x y e. e) r r' (g.result ∙ sym g'.result), g.listing ∙ sym g'.listing)
 
 -- ---- one call, with its numbers, its row, its centroids one after the other, and how many cells are lent
 module _ (epsilon : Float) (replicas dim count : ℕ) (row values : List Float) (n : ℕ) where
@@ -176,19 +172,19 @@ module _ (epsilon : Float) (replicas dim count : ℕ) (row values : List Float) 
       (λ e. inr (inr (only_five number e).1))
       (refused_by tests inner number c)
 
-  -- ---- what a caller reads in the cells of a call that is told `Listed`
+  -- ---- what a caller reads in the cells of a call that is told `Ok`
 
   taken : (l : List ℕ) → call ≡ accepted l → (slices ≡ true) × (inner ≡ accepted l)
   unfolding closure_call closure_refusal
   taken l e = let t = (accepted_exactly_lem tests inner l).0 e in (t.0.1.0, t.1)
 
   -- what lies behind it
-  behind : (listed : ℕ) (cells : List ℕ) → Gives call n (Listed listed) cells
+  behind : (listed : ℕ) (cells : List ℕ) → Gives call n (Ok listed) cells
       → ((slices ≡ true) × (mixed ≡ false)) × ((listed ≡ length indices) × (cells ≡ padded blank_cell n indices))
   unfolding on_accepted cells_of
   behind listed cells given = go call refl given.result given.listing
     where
-      go : (a : Answer (List ℕ)) → call ≡ a → told (Listed listed) ≡ on_accepted length a → cells ≡ cells_of blank_cell n (λ (l : List ℕ). l) a
+      go : (a : Answer (List ℕ)) → call ≡ a → told (λ (count : ℕ). count) (Ok listed) ≡ on_accepted length a → cells ≡ cells_of blank_cell n (λ (l : List ℕ). l) a
           → ((slices ≡ true) × (mixed ≡ false)) × ((listed ≡ length indices) × (cells ≡ padded blank_cell n indices))
       go (accepted l) e t c =
           let w = taken l e in
@@ -212,7 +208,7 @@ module _ (epsilon : Float) (replicas dim count : ℕ) (row values : List Float) 
     pub closest : (c : ℕ) → c < count → ((j : ℕ) → j < count → nearer (distances row centres) j c ≡ false) → 0 < replicas → le zero32 epsilon ≡ true
         → is_nan (reach_of epsilon (get_or (distances row centres) c nan)).threshold ≡ false → (0 < listed) × (get_or cells 0 0 ≡ c)
 
-  pub listed_cells : (listed : ℕ) (cells : List ℕ) → Gives call n (Listed listed) cells → Cells listed cells
+  pub listed_cells : (listed : ℕ) (cells : List ℕ) → Gives call n (Ok listed) cells → Cells listed cells
   listed_cells listed cells given =
       let b = behind listed cells given in
       let long : listed ≡ length indices = b.1.0 in

@@ -1,10 +1,10 @@
 -- Closure on what a caller lends (01, 'Ranges and refusal numbers' and 'Closure'). Lengths stand for the lent slices.
-use Rattle.std.specs.Prelude.{◌≡◌, ◌&&◌, cond, List, [], ◌∷◌, ℕ, ◌*◌, eqb, length, Float}
+use Rattle.std.specs.Prelude.{◌≡◌, ◌&&◌, cond, List, [], ◌∷◌, ℕ, ◌*◌, eqb, length, Float, Result}
 use Rattle.sums.specs.Rows.{Row, rows_from}
 use Rattle.sums.specs.Refusals.{Answer, accepted, refused, within, lowest, unless, on_accepted, cells_of, blank_cell}
 use Rattle.closure.specs.Closure.{closure, distances, unordered}
-use Rattle.closure.specs.declared.call.ClosureAnswer.{ClosureAnswer}
-use Rattle.closure.specs.declared.call.ClosureAnswer.TheVariants.{Listed, Refused}
+use Rattle.sums.specs.Refused.{told}
+use Rattle.sums.specs.declared.refusals.Refusal.{Refusal}
 
 -- 1: dim or the count of centroids out of range; 2: a slice is not as long as they say
 unfoldable pub closure_refusal : ℕ → ℕ → ℕ → ℕ → ℕ → ℕ
@@ -20,12 +20,7 @@ unfoldable pub closure_call : Float → ℕ → ℕ → ℕ → List Float → L
 closure_call epsilon replicas dim count row centroids cells =
     unless (closure_refusal dim count (length row) (length centroids) cells) (answered epsilon replicas row (rows_from dim count centroids))
 
--- each case of the code's enum in 01's terms: how many are listed, or the refusal's number
-abbrev pub told : ClosureAnswer → Answer ℕ
-told (Listed count) = accepted count
-told (Refused number) = refused number
-
 -- a call's whole result: the answer, and the n cells lent, the indices first and the rest blank
-pub record Gives (answer : Answer (List ℕ)) (n : ℕ) (r : ClosureAnswer) (cells : List ℕ) : Type 0 where
-  pub result : told r ≡ on_accepted length answer
+pub record Gives (answer : Answer (List ℕ)) (n : ℕ) (r : Result ℕ Refusal) (cells : List ℕ) : Type 0 where
+  pub result : told (λ (count : ℕ). count) r ≡ on_accepted length answer
   pub listing : cells ≡ cells_of blank_cell n (λ (indices : List ℕ). indices) answer

@@ -5,8 +5,6 @@ ghost use Rattle.sums.specs.Cells.{Below};
 ghost use Rattle.sums.specs.Refusals.{padded};
 ghost use Rattle.closure.specs.Closure.{in_reach, reach_of};
 
-use sums::cells;
-
 // What decides how far the closure reaches: made once a call, and passed by value.
 #[derive(Clone, Copy)]
 pub struct Reach {
@@ -39,14 +37,11 @@ pub fn select(reach: Reach, distances: &[f32], at: &[u16], cells: &mut [u16]) ->
     ensures value { result ≡ length (keep (in_reach reach distances.now) at.now) }
 {
     let mut n = 0usize;
-    let mut j = 0usize;
-    while j < at.len() {
-        let p = at[j];
-        if distances[cells::wide(p)] <= reach.threshold {
+    for &p in at {
+        if distances[usize::from(p)] <= reach.threshold {
             cells[n] = p;
             n += 1;
         }
-        j += 1;
     }
     n
 }

@@ -3,7 +3,7 @@ use Prim.Native.Nat.{ℕ, zero, suc, ◌+◌, ◌*◌, ◌≤◌, ◌<◌}
 use mathlib.Core.Path.{◌≡◌, refl, sym, ap, ◌∙◌}
 use mathlib.Core.List.{List, [], ◌∷◌, ◌++◌, flat_map}
 use native.Mathlib.Omega.{arith}
-use borrow.Author.Tests.{eqb-true, le-leb, eq-eqb}
+use borrow.Author.Tests.{le-leb, eq-eqb}
 use lib.ListN.{length, get_or, take, drop, replicate, length-append, length-drop, drop_of_length-le}
 use lib.Seq.{take_all, take_at}
 use lib.Ieee.{Float}
@@ -13,30 +13,28 @@ use Rattle.words.specs.Bytes.{floats_from, bytes16}
 use Rattle.words.proofs.ByteLaws.{floats_length}
 use Rattle.labels.specs.declared.mode.Mode.{Mode}
 use Rattle.labels.specs.Mode.{unplaced_refusal}
-use Rattle.labels.specs.declared.nearest.Placement.{Placement}
+use Rattle.std.specs.Prelude.{Option, Result, Ok, Err}
+use Rattle.labels.specs.declared.nearest.Nearest.{Nearest}
+use Rattle.sums.specs.declared.refusals.Refusal.{Refusal}
+use Rattle.sums.specs.Refused.{number_of, told, number_in}
 use Rattle.labels.specs.Label.{nearest, nearests, label_in, labels_of, unplaced_of}
-use Rattle.labels.specs.Call.{label_refusal as rows_refusal, label_call as rows_call, told, Gives as Labels}
-use Rattle.labels.specs.declared.call.LabelAnswer.{LabelAnswer}
-use Rattle.labels.specs.declared.call.LabelAnswer.TheVariants.{Labelled, Refused as Lost}
+use Rattle.labels.specs.Call.{label_refusal as rows_refusal, label_call as rows_call, Gives as Labels}
 use Rattle.sums.proofs.Whens.{not_both}
-use Rattle.sums.proofs.Refusing.{both, within_is, passed}
 use Rattle.closure.specs.Call.{closure_call, Gives}
-use Rattle.closure.specs.declared.call.ClosureAnswer.{ClosureAnswer}
-use Rattle.closure.specs.declared.call.ClosureAnswer.TheVariants.{Listed, Refused}
-use Rattle.kmeans.specs.KMeans.{Result}
-use Rattle.kmeans.specs.Call.{told as kmeans_told, Gives as KMeansGives}
-use Rattle.kmeans.specs.declared.call.KMeansAnswer.{KMeansAnswer}
+use Rattle.kmeans.specs.KMeans.{Result as Fit}
+use Rattle.kmeans.specs.Call.{figures as kmeans_figures, Gives as KMeansGives}
+use Rattle.kmeans.specs.declared.call.Outcome.{Outcome}
 use Rattle.grouping.specs.Groups.{Groups}
-use Rattle.grouping.specs.Answers.{told as groups_told, figures}
-use Rattle.grouping.specs.declared.waiting.GroupingAnswer.{GroupingAnswer}
+use Rattle.grouping.specs.Answers.{counted, figures}
+use Rattle.grouping.specs.declared.waiting.Counts.{Counts}
 use Rattle.grouping.specs.Call.{Gives as GroupGives}
 use Rattle.results.specs.Grouping.{Stored}
-use Rattle.results.specs.Calls.{write_told, Writes, told as read_told, figures as read_figures}
-use Rattle.results.specs.declared.writer.WriteAnswer.{WriteAnswer}
-use Rattle.results.specs.declared.reader.ReadAnswer.{ReadAnswer}
+use Rattle.results.specs.Calls.{Writes, numbers_of, figures as read_figures}
+use Rattle.results.specs.declared.reader.Numbers.{Numbers}
 use Rattle.sums.specs.Sums.{zero32}
 use Rattle.exports.specs.Exports.{code_of, figure_of, Gave, label_refusal, placement_of, label_by, label_call, closure_refusal, closure_bytes_call, closure_written, LabelsGave, KMeansGave, GroupGave, WriteGave, NumbersGave}
 use Rattle.sums.proofs.Fronts.{flat_length}
+use Rattle.sums.proofs.Told.{unless_number}
 
 -- ---- cells as bytes
 -- one number more behind the cells, up to the end
@@ -48,6 +46,12 @@ cells_last cells r r' n long e =
     e ∙ rw (take_at (flat_map bytes16 cells) (drop (length cells * 2) r) (length cells * 2) front, drop_of_length-le (flat_map bytes16 cells ++ drop (length cells * 2) r) {i = length cells * 2 + 2} few)
 
 -- ---- from an answer to its number and bytes
+-- of a result, told as an answer, it is the refusal's
+pub code_told : {A B : Type 0} (figure : A → B) (r : Result A Refusal) → code_of (told figure r) ≡ number_in r
+unfolding code_of
+code_told figure (Ok x) = refl
+code_told figure (Err refusal) = refl
+
 -- an answer that tells less of an acceptance has the same number, and each of its figures is one of the whole
 module _ {A B : Type 0} (f : A → B) where
   same_code : (answer : Answer A) (t : Answer B) → t ≡ on_accepted f answer → code_of t ≡ code_of answer
@@ -61,8 +65,8 @@ module _ {A B : Type 0} (f : A → B) where
   same_figure blank figure (refused number) t e = ap (figure_of blank figure) e
 
 -- a labelling call's whole result, from the answer that it was told
-pub label_gave : (answer : Answer (List Placement)) (n : ℕ) (r : LabelAnswer) (cells : List ℕ) (number unplaced : ℕ) → Labels answer n r cells → number ≡ code_of (told r)
-    → unplaced ≡ figure_of 0 (λ (m : ℕ). m) (told r) → LabelsGave answer n number cells unplaced
+pub label_gave : (answer : Answer (List (Option Nearest))) (n : ℕ) (r : Result ℕ Refusal) (cells : List ℕ) (number unplaced : ℕ) → Labels answer n r cells → number ≡ code_of (told (λ (m : ℕ). m) r)
+    → unplaced ≡ figure_of 0 (λ (m : ℕ). m) (told (λ (m : ℕ). m) r) → LabelsGave answer n number cells unplaced
 label_gave answer n r cells number unplaced g c f =
     (c ∙ same_code unplaced_of answer _ g.result, (g.labels, f ∙ same_figure unplaced_of 0 (λ (m : ℕ). m) answer _ g.result))
 
@@ -70,59 +74,34 @@ pub gave_refused : {A : Type 0} (written : A → List ℕ) (len n : ℕ) (result
 unfolding code_of figure_of
 gave_refused written len n result e = (refl, e)
 
-module _ (len k : ℕ) (r : ClosureAnswer) (cells result : List ℕ) where
-  pub listed : (answer : Answer (List ℕ)) (n : ℕ) → Gives answer k r cells → r ≡ Listed n → result ≡ flat_map bytes16 cells ++ bytes16 n
+module _ (len k : ℕ) (cells result : List ℕ) where
+  pub listed : (answer : Answer (List ℕ)) (n : ℕ) → Gives answer k (Ok n) cells → result ≡ flat_map bytes16 cells ++ bytes16 n
       → Gave answer len (closure_written k) 0 result
   unfolding on_accepted cells_of code_of figure_of closure_written
-  listed (accepted indices) n g e w =
-      let is : ◌≡◌ {A = Answer ℕ} (accepted n) (accepted (length indices)) = rw e at g.result in
+  listed (accepted indices) n g w =
+      let is : ◌≡◌ {A = Answer ℕ} (accepted n) (accepted (length indices)) = g.result in
       let same : n ≡ length indices = cc in
       (refl, w ∙ rw (same, g.listing))
-  listed (refused number) n g e w =
-      let is : ◌≡◌ {A = Answer ℕ} (accepted n) (refused number) = rw e at g.result in
-      let z : ◌≡◌ {A = ℕ} 0 1 = cc in
-      absurd (omega arith)
+  listed (refused number) n g w =
+      let is : ◌≡◌ {A = Answer ℕ} (accepted n) (refused number) = g.result in
+      cc
 
-  pub refusing : (answer : Answer (List ℕ)) (n : ℕ) → Gives answer k r cells → r ≡ Refused n → result ≡ replicate len 255
-      → Gave answer len (closure_written k) n result
+  pub refusing : (answer : Answer (List ℕ)) (refusal : Refusal) → Gives answer k (Err refusal) cells → result ≡ replicate len 255
+      → Gave answer len (closure_written k) (number_of refusal) result
   unfolding on_accepted code_of figure_of
-  refusing (accepted indices) n g e w =
-      let is : ◌≡◌ {A = Answer ℕ} (refused n) (accepted (length indices)) = rw e at g.result in
-      let z : ◌≡◌ {A = ℕ} 0 1 = cc in
-      absurd (omega arith)
-  refusing (refused number) n g e w =
-      let is : ◌≡◌ {A = Answer ℕ} (refused n) (refused number) = rw e at g.result in
+  refusing (accepted indices) refusal g w =
+      let is : ◌≡◌ {A = Answer ℕ} (refused (number_of refusal)) (accepted (length indices)) = g.result in
+      cc
+  refusing (refused number) refusal g w =
+      let is : ◌≡◌ {A = Answer ℕ} (refused (number_of refusal)) (refused number) = g.result in
       (cc, w)
 
 -- ---- closure's call
-pub record Fitting (dim count vector centroids result : ℕ) : Type 0 where
-  pub small : dim ≤ 64
-  pub few : count ≤ 64
-  pub vector_is : vector ≡ dim * 4
-  pub centroids_are : centroids ≡ count * dim * 4
-  pub result_is : result ≡ count * 2 + 2
-
-pub fitting : (dim count vector centroids result : ℕ) → closure_refusal dim count vector centroids result ≡ 0 → Fitting dim count vector centroids result
-unfolding closure_refusal
-fitting dim count vector centroids result e =
-    let held = passed 0 _ e in
-    let ranges = both _ _ held.0 in
-    let slices = both _ _ held.1.0 in
-    let given = both _ _ slices.0 in
-    record {
-      small = (within_is 1 64 dim ranges.0).1;
-      few = (within_is 0 64 count ranges.1).1;
-      vector_is = eqb-true vector (dim * 4) given.0;
-      centroids_are = eqb-true centroids (count * dim * 4) given.1;
-      result_is = eqb-true result (count * 2 + 2) slices.1;
-    }
-
 module _ (epsilon : Float) (replicas dim count : ℕ) (vector centroids : List ℕ) (result : ℕ) where
-  pub call_refused : (n : ℕ) → n ≡ closure_refusal dim count (length vector) (length centroids) result → (n ≡ 0 → ⊥)
-      → closure_bytes_call epsilon replicas dim count vector centroids result ≡ refused n
-  unfolding closure_bytes_call unless
-  call_refused zero e h = absurd (h refl)
-  call_refused (suc n) e h = rw (← e)
+  pub call_refused : (refusal : Refusal) → number_of refusal ≡ closure_refusal dim count (length vector) (length centroids) result
+      → closure_bytes_call epsilon replicas dim count vector centroids result ≡ refused (number_of refusal)
+  unfolding closure_bytes_call
+  call_refused refusal e = rw (← e) (unless_number refusal _)
 
   pub call_on : closure_refusal dim count (length vector) (length centroids) result ≡ 0
       → closure_bytes_call epsilon replicas dim count vector centroids result
@@ -131,37 +110,11 @@ module _ (epsilon : Float) (replicas dim count : ℕ) (vector centroids : List �
   call_on e = rw e
 
 -- ---- the label's call
-pub record LabelFits (dim k row centroids result : ℕ) : Type 0 where
-  pub some : 0 < dim
-  pub small : dim ≤ 64
-  pub one : 0 < k
-  pub few : k ≤ 64
-  pub row_is : row ≡ dim * 4
-  pub centroids_are : centroids ≡ k * dim * 4
-  pub result_is : result ≡ 2
-
-pub label_fits : (dim k row centroids result : ℕ) → label_refusal dim k row centroids result ≡ 0 → LabelFits dim k row centroids result
-unfolding label_refusal
-label_fits dim k row centroids result e =
-    let held = passed 0 _ e in
-    let ranges = both _ _ held.0 in
-    let slices = both _ _ held.1.0 in
-    let given = both _ _ slices.0 in
-    record {
-      some = (within_is 1 64 dim ranges.0).0;
-      small = (within_is 1 64 dim ranges.0).1;
-      one = (within_is 1 64 k ranges.1).0;
-      few = (within_is 1 64 k ranges.1).1;
-      row_is = eqb-true row (dim * 4) given.0;
-      centroids_are = eqb-true centroids (k * dim * 4) given.1;
-      result_is = eqb-true result 2 slices.1;
-    }
-
 module _ (mode : Mode) (dim k : ℕ) (row centroids : List ℕ) (result : ℕ) where
-  pub label_refused : (n : ℕ) → n ≡ label_refusal dim k (length row) (length centroids) result → (n ≡ 0 → ⊥) → label_call mode dim k row centroids result ≡ refused n
-  unfolding label_call unless
-  label_refused zero e h = absurd (h refl)
-  label_refused (suc n) e h = rw (← e)
+  pub label_refused : (refusal : Refusal) → number_of refusal ≡ label_refusal dim k (length row) (length centroids) result
+      → label_call mode dim k row centroids result ≡ refused (number_of refusal)
+  unfolding label_call
+  label_refused refusal e = rw (← e) (unless_number refusal _)
 
   pub label_on : label_refusal dim k (length row) (length centroids) result ≡ 0 → label_call mode dim k row centroids result ≡ label_by mode (placement_of dim k row centroids)
   unfolding label_call unless
@@ -178,9 +131,9 @@ one_row mode dim k row centroids some small one few a b =
     = simp (le-leb 1 dim some, le-leb dim 64 small, le-leb 1 k one, le-leb k 64 few, eq-eqb (length row) (1 * dim) wide, eq-eqb (length centroids) (k * dim) b) in
     rw (on, take_all dim row (omega arith))
 
-module _ (mode : Mode) (dim k : ℕ) (row centroids : List ℕ) (r : LabelAnswer) (cells : List ℕ) (some : 0 < dim) (small : dim ≤ 64) (one : 0 < k) (few : k ≤ 64)
+module _ (mode : Mode) (dim k : ℕ) (row centroids : List ℕ) (r : Result ℕ Refusal) (cells : List ℕ) (some : 0 < dim) (small : dim ≤ 64) (one : 0 < k) (few : k ≤ 64)
     (g : Labels (rows_call mode 1 dim k (floats_from dim row) (floats_from (k * dim) centroids) 1 1) 1 r cells) (len : ℕ) (bytes : List ℕ) where
-  abbrev found : Placement
+  abbrev found : Option Nearest
   found = placement_of dim k row centroids
 
   one_found : rows_call mode 1 dim k (floats_from dim row) (floats_from (k * dim) centroids) 1 1 ≡ unless (unplaced_refusal mode (unplaced_of (found ∷ []))) (accepted (found ∷ []))
@@ -188,42 +141,42 @@ module _ (mode : Mode) (dim k : ℕ) (row centroids : List ℕ) (r : LabelAnswer
   one_found = one_row mode dim k (floats_from dim row) (floats_from (k * dim) centroids) some small one few (floats_length dim row) (floats_length (k * dim) centroids)
 
   -- the one cell's label is written
-  pub label_placed : (n : ℕ) → r ≡ Labelled n → bytes ≡ bytes16 (get_or cells 0 0) → Gave (label_by mode found) len bytes16 0 bytes
+  pub label_placed : (n : ℕ) → r ≡ Ok n → bytes ≡ bytes16 (get_or cells 0 0) → Gave (label_by mode found) len bytes16 0 bytes
   unfolding label_by unless on_accepted cells_of padded code_of figure_of
   label_placed n e w = go (unplaced_refusal mode (unplaced_of (found ∷ []))) (rw (e, one_found) at g.result) (rw one_found at g.labels)
     where
-      go : (lost : ℕ) → told (Labelled n) ≡ on_accepted unplaced_of (unless lost (accepted (found ∷ []))) → cells ≡ cells_of blank_cell 1 labels_of (unless lost (accepted (found ∷ [])))
+      go : (lost : ℕ) → accepted n ≡ on_accepted unplaced_of (unless lost (accepted (found ∷ []))) → cells ≡ cells_of blank_cell 1 labels_of (unless lost (accepted (found ∷ [])))
           → Gave (unless lost (accepted (label_in found))) len bytes16 0 bytes
       go zero t c = (refl, w ∙ ap (λ (l : List ℕ). bytes16 (get_or l 0 0)) c)
       go (suc lost) t c = absurd (not_both n (suc lost) t)
 
   -- the refusal's number, and the bytes as they were
-  pub label_lost : (n : ℕ) → r ≡ Lost n → bytes ≡ replicate len 255 → Gave (label_by mode found) len bytes16 n bytes
+  pub label_lost : (refusal : Refusal) → r ≡ Err refusal → bytes ≡ replicate len 255 → Gave (label_by mode found) len bytes16 (number_of refusal) bytes
   unfolding label_by unless on_accepted code_of figure_of
-  label_lost n e w = go (unplaced_refusal mode (unplaced_of (found ∷ []))) (rw (e, one_found) at g.result)
+  label_lost refusal e w = go (unplaced_refusal mode (unplaced_of (found ∷ []))) (rw (e, one_found) at g.result)
     where
-      go : (lost : ℕ) → told (Lost n) ≡ on_accepted unplaced_of (unless lost (accepted (found ∷ []))) → Gave (unless lost (accepted (label_in found))) len bytes16 n bytes
-      go zero t = absurd (not_both _ n (sym t))
+      go : (lost : ℕ) → refused (number_of refusal) ≡ on_accepted unplaced_of (unless lost (accepted (found ∷ []))) → Gave (unless lost (accepted (label_in found))) len bytes16 (number_of refusal) bytes
+      go zero t = absurd (not_both _ (number_of refusal) (sym t))
       go (suc lost) t = (cc, w)
 
--- ---- k-means: from the enum to the number and the figures
-pub kmeans_gave : (label_cells centroid_cells : ℕ) (r : KMeansAnswer) (labels : List ℕ) (centroids : List Float) (answer : Answer Result) (number : ℕ) (o : Float) (n u : ℕ)
-    → KMeansGives answer label_cells centroid_cells r labels centroids → number ≡ code_of (kmeans_told r)
-    → (o ≡ figure_of zero32 (λ (f : Float × ℕ × ℕ). f.0) (kmeans_told r))
-    × ((n ≡ figure_of 0 (λ (f : Float × ℕ × ℕ). f.1) (kmeans_told r)) × (u ≡ figure_of 0 (λ (f : Float × ℕ × ℕ). f.2) (kmeans_told r)))
+-- ---- k-means: from the result to the number and the figures
+pub kmeans_gave : (label_cells centroid_cells : ℕ) (r : Result Outcome Refusal) (labels : List ℕ) (centroids : List Float) (answer : Answer Fit) (number : ℕ) (o : Float) (n u : ℕ)
+    → KMeansGives answer label_cells centroid_cells r labels centroids → number ≡ code_of (told kmeans_figures r)
+    → (o ≡ figure_of zero32 (λ (f : Float × ℕ × ℕ). f.0) (told kmeans_figures r))
+    × ((n ≡ figure_of 0 (λ (f : Float × ℕ × ℕ). f.1) (told kmeans_figures r)) × (u ≡ figure_of 0 (λ (f : Float × ℕ × ℕ). f.2) (told kmeans_figures r)))
     → KMeansGave answer label_cells centroid_cells number labels centroids o n u
 kmeans_gave label_cells centroid_cells r labels centroids answer number o n u g c f =
-    let figures : Result → Float × ℕ × ℕ = λ a. (a.objective, a.restart, a.unplaced) in
+    let figures : Fit → Float × ℕ × ℕ = λ a. (a.objective, a.restart, a.unplaced) in
     let objective = f.0 ∙ same_figure figures zero32 (λ (p : Float × ℕ × ℕ). p.0) answer _ g.result in
     let restart = f.1.0 ∙ same_figure figures 0 (λ (p : Float × ℕ × ℕ). p.1) answer _ g.result in
     let unplaced = f.1.1 ∙ same_figure figures 0 (λ (p : Float × ℕ × ℕ). p.2) answer _ g.result in
     (c ∙ same_code figures answer _ g.result, (g.labelled, (g.centred, (objective, (restart, unplaced)))))
 
--- ---- grouping: from the enum to the number and the counts
-pub group_gave : (dim : ℕ) (rows : List Row) (order_room end_room mean_room : ℕ) (r : GroupingAnswer) (order ends : List ℕ) (means : List Float) (answer : Answer Groups) (number n m u : ℕ)
-    → GroupGives answer dim rows order_room end_room mean_room r order ends means → number ≡ code_of (groups_told r)
-    → (n ≡ figure_of 0 (λ (f : ℕ × ℕ × ℕ). f.0) (groups_told r))
-    × ((m ≡ figure_of 0 (λ (f : ℕ × ℕ × ℕ). f.1) (groups_told r)) × (u ≡ figure_of 0 (λ (f : ℕ × ℕ × ℕ). f.2) (groups_told r)))
+-- ---- grouping: from the result to the number and the counts
+pub group_gave : (dim : ℕ) (rows : List Row) (order_room end_room mean_room : ℕ) (r : Result Counts Refusal) (order ends : List ℕ) (means : List Float) (answer : Answer Groups) (number n m u : ℕ)
+    → GroupGives answer dim rows order_room end_room mean_room r order ends means → number ≡ code_of (told counted r)
+    → (n ≡ figure_of 0 (λ (f : ℕ × ℕ × ℕ). f.0) (told counted r))
+    × ((m ≡ figure_of 0 (λ (f : ℕ × ℕ × ℕ). f.1) (told counted r)) × (u ≡ figure_of 0 (λ (f : ℕ × ℕ × ℕ). f.2) (told counted r)))
     → GroupGave answer dim rows order_room end_room mean_room number order ends means n m u
 group_gave dim rows order_room end_room mean_room r order ends means answer number n m u g c f =
     let groups = f.0 ∙ same_figure figures 0 (λ (p : ℕ × ℕ × ℕ). p.0) answer _ g.result in
@@ -231,13 +184,13 @@ group_gave dim rows order_room end_room mean_room r order ends means answer numb
     let unplaced = f.1.1 ∙ same_figure figures 0 (λ (p : ℕ × ℕ × ℕ). p.2) answer _ g.result in
     (c ∙ same_code figures answer _ g.result, (g.ordered, (g.ended, (g.meant, (groups, (splits, unplaced))))))
 
--- ---- the result file: from the enums to the number, the figures and the cells
-pub write_gave : (answer : Answer (List ℕ)) (n : ℕ) (r : WriteAnswer) (file : List ℕ) (number : ℕ) → Writes answer n r file → number ≡ code_of (write_told r) → WriteGave answer n number file
-write_gave answer n r file number g c = (c ∙ same_code (λ (bytes : List ℕ). tt) answer _ g.result, g.bytes)
+-- ---- the result file: from the results to the number, the figures and the cells
+pub write_gave : (answer : Answer (List ℕ)) (n : ℕ) (r : Result (Unit {0}) Refusal) (file : List ℕ) (number : ℕ) → Writes answer n r file → number ≡ number_in r → WriteGave answer n number file
+write_gave answer n r file number g c = (c ∙ (sym (code_told (λ (done : Unit {0}). tt {0}) r) ∙ same_code (λ (bytes : List ℕ). tt {0}) answer _ g.result), g.bytes)
 
-pub numbers_gave : (answer : Answer Stored) (r : ReadAnswer) (number n d k : ℕ) → read_told r ≡ on_accepted read_figures answer → number ≡ code_of (read_told r)
-    → (n ≡ figure_of 0 (λ (f : ℕ × ℕ × ℕ). f.0) (read_told r))
-    × ((d ≡ figure_of 0 (λ (f : ℕ × ℕ × ℕ). f.1) (read_told r)) × (k ≡ figure_of 0 (λ (f : ℕ × ℕ × ℕ). f.2) (read_told r)))
+pub numbers_gave : (answer : Answer Stored) (r : Result Numbers Refusal) (number n d k : ℕ) → told numbers_of r ≡ on_accepted read_figures answer → number ≡ code_of (told numbers_of r)
+    → (n ≡ figure_of 0 (λ (f : ℕ × ℕ × ℕ). f.0) (told numbers_of r))
+    × ((d ≡ figure_of 0 (λ (f : ℕ × ℕ × ℕ). f.1) (told numbers_of r)) × (k ≡ figure_of 0 (λ (f : ℕ × ℕ × ℕ). f.2) (told numbers_of r)))
     → NumbersGave answer number n d k
 numbers_gave answer r number n d k e c f =
     let rows = f.0 ∙ same_figure read_figures 0 (λ (p : ℕ × ℕ × ℕ). p.0) answer _ e in

@@ -17,8 +17,8 @@ use Rattle.words.specs.Bytes.{floats_from}
 use Rattle.words.proofs.ByteLaws.{floats_length}
 use Rattle.labels.specs.declared.mode.Mode.{Mode}
 use Rattle.labels.specs.declared.mode.Mode.TheVariants.{Strict, OldWay}
-use Rattle.labels.specs.declared.nearest.Placement.{Placement}
-use Rattle.labels.specs.declared.nearest.Placement.TheVariants.{Placed, Unplaced}
+use Rattle.std.specs.Prelude.{Option, Some, None}
+use Rattle.labels.specs.declared.nearest.Nearest.{Nearest}
 use Rattle.labels.specs.Mode.{unplaced_refusal}
 use Rattle.labels.specs.Label.{search, label_in, unplaced_of}
 use Rattle.labels.proofs.Modes.{allowed_nine, allowed_otherwise, allowed_accepted, called_old}
@@ -63,16 +63,16 @@ module _ (dim k : ℕ) (row centroids : List ℕ) (result : ℕ) where
   label-tests = label-ranges ∷ label-bytes ∷ []
 
   -- what the search answers for the row that the bytes hold
-  abbrev pub found : Placement
+  abbrev pub found : Option Nearest
   found = placement_of dim k row centroids
 
-  one_unplaced : (0 < unplaced_of (found ∷ [])) ↔ (found ≡ Unplaced)
+  one_unplaced : (0 < unplaced_of (found ∷ [])) ↔ (found ≡ None)
   unfolding unplaced_of
   one_unplaced = go found
     where
-      go : (p : Placement) → (0 < unplaced_of (p ∷ [])) ↔ (p ≡ Unplaced)
-      go (Placed label distance) = ((λ h. absurd (omega (arith, h))), (λ e. let z : ◌≡◌ {A = ℕ} 0 1 = ap (λ (p : Placement). unplaced_of (p ∷ [])) e in absurd (omega arith)))
-      go Unplaced = ((λ h. refl), (λ e. omega arith))
+      go : (p : Option Nearest) → (0 < unplaced_of (p ∷ [])) ↔ (p ≡ None)
+      go (Some best) = ((λ h. absurd (omega (arith, h))), (λ e. let z : ◌≡◌ {A = ℕ} 0 1 = ap (λ (p : Option Nearest). unplaced_of (p ∷ [])) e in absurd (omega arith)))
+      go None = ((λ h. refl), (λ e. omega arith))
 
   label_never : (mode : Mode) (number : ℕ) → number < 9 → label_by mode found ≡ refused number → ⊥
   unfolding label_by
@@ -89,7 +89,7 @@ module _ (dim k : ℕ) (row centroids : List ℕ) (result : ℕ) where
   label_two mode = fails_exactly label-tests (label_by mode found) 1 (λ _. label_never mode 2 (omega arith))
 
   -- Refused by 9 exactly when both tests pass, the mode is strict and the row is unplaced.
-  pub label_nine : (mode : Mode) → (labelled mode ≡ refused 9) ↔ (((label-ranges ≡ true) × (label-bytes ≡ true)) × ((mode ≡ Strict) × (found ≡ Unplaced)))
+  pub label_nine : (mode : Mode) → (labelled mode ≡ refused 9) ↔ (((label-ranges ≡ true) × (label-bytes ≡ true)) × ((mode ≡ Strict) × (found ≡ None)))
   unfolding label_call label_refusal label_by
   label_nine mode =
       let w = later_exactly label-tests (label_by mode found) 9 (omega arith) in

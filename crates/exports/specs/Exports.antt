@@ -1,12 +1,12 @@
 -- 01, 'What is ported': the functions that the bench host calls, on numbers and little-endian bytes. Lengths are counts of bytes.
-use Rattle.std.specs.Prelude.{◌≡◌, Bool, not, ◌&&◌, ℕ, ◌+◌, ◌*◌, eqb, length, replicate, Float}
+use Rattle.std.specs.Prelude.{◌≡◌, Bool, not, ◌&&◌, ℕ, ◌+◌, ◌*◌, eqb, length, replicate, Float, Option}
 use mathlib.Core.List.{List, [], ◌∷◌, ◌++◌, flat_map, flatten}
 use Rattle.sums.specs.Rows.{Row, rows_from}
 use Rattle.sums.specs.Sums.{zero32}
 use Rattle.sums.specs.Refusals.{Answer, accepted, refused, within, lowest, unless, padded, cells_of, blank_cell}
 use Rattle.words.specs.Bytes.{floats_from, bytes16}
 use Rattle.labels.specs.declared.mode.Mode.{Mode}
-use Rattle.labels.specs.declared.nearest.Placement.{Placement}
+use Rattle.labels.specs.declared.nearest.Nearest.{Nearest}
 use Rattle.labels.specs.Mode.{unplaced_refusal}
 use Rattle.labels.specs.Label.{nearest, label_in, labels_of, unplaced_of}
 use Rattle.closure.specs.Call.{closure_call}
@@ -37,11 +37,11 @@ label_refusal dim k row centroids result =
     lowest ((within 1 64 dim && within 1 64 k) ∷ (eqb row (dim * 4) && eqb centroids (k * dim * 4) && eqb result 2) ∷ [])
 
 -- the answer of the search, for the row and the centroids that the bytes hold
-unfoldable pub placement_of : ℕ → ℕ → List ℕ → List ℕ → Placement
+unfoldable pub placement_of : ℕ → ℕ → List ℕ → List ℕ → Option Nearest
 placement_of dim k row centroids = nearest (rows_from dim k (floats_from (k * dim) centroids)) (floats_from dim row)
 
 -- its label, or 9 where the row is unplaced and the mode is strict (02 (iii)); in the old way an unplaced row's is 0
-unfoldable pub label_by : Mode → Placement → Answer ℕ
+unfoldable pub label_by : Mode → Option Nearest → Answer ℕ
 label_by mode found = unless (unplaced_refusal mode (unplaced_of (found ∷ []))) (accepted (label_in found))
 
 -- the whole call: the label, or the refusal's number
@@ -66,7 +66,7 @@ closure_written count indices = flat_map bytes16 (padded blank_cell count indice
 
 -- ---- labelling, k-means and grouping over typed slices
 -- a labelling's whole result: its number, the n label cells, and the unplaced rows, 0 after a refusal
-abbrev pub LabelsGave : Answer (List Placement) → ℕ → ℕ → List ℕ → ℕ → Type 0
+abbrev pub LabelsGave : Answer (List (Option Nearest)) → ℕ → ℕ → List ℕ → ℕ → Type 0
 LabelsGave answer n r cells unplaced = (r ≡ code_of answer) × ((cells ≡ cells_of blank_cell n labels_of answer) × (unplaced ≡ figure_of 0 unplaced_of answer))
 
 -- a setting as a number: 0 is off, and every other number is on (02 (iv))

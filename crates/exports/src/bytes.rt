@@ -1,50 +1,44 @@
 // What the bench host calls on bytes: numbers and little-endian bytes in, a number and bytes out.
-ghost use Rattle.std.specs.Prelude.{◌≡◌, ◌&&◌, ◌+◌, ◌*◌, ◌≤◌, ◌<◌, eqb, length, replicate};
+ghost use Rattle.std.specs.Prelude.{◌≡◌, ◌+◌, ◌*◌, ◌≤◌, ◌<◌, length, replicate, OnOk};
 ghost use mathlib.Core.List.{◌++◌, flat_map};
+ghost use Rattle.sums.specs.Refused.{number_in};
 ghost use Rattle.words.specs.Bytes.{floats_from, bytes16};
-ghost use Rattle.labels.specs.declared.mode.Mode.TheVariants.{Strict, OldWay};
 ghost use Rattle.closure.specs.Call.{closure_call};
 ghost use Rattle.batch.specs.Batch.{listing_of, put_front};
-ghost use Rattle.exports.specs.Exports.{Gave, label_refusal as label_refusal_lem, placement_of, label_by, label_call};
-ghost use Rattle.exports.specs.Exports.{closure_refusal as closure_refusal_lem, closure_bytes_call, closure_written};
+ghost use Rattle.exports.specs.Exports.{Gave, label_refusal, placement_of, label_by, label_call};
+ghost use Rattle.exports.specs.Exports.{closure_refusal, closure_bytes_call, closure_written};
 
-use closure::call::ClosureAnswer;
+use crate::codes::code;
 use labels::call;
-use labels::call::LabelAnswer;
 use labels::mode::Mode;
-use sums::{cells, checks};
+use sums::refusals::Refusal;
+use words::ToBytes;
 
-// 2: a slice has not its number of bytes; the numbers are in range, and the result is to have `wanted`.
-fn lengths_fit(
-    dim: usize,
-    k: usize,
-    row: usize,
+// What a result byte holds where there is no result.
+const BLANK: u8 = 255;
+
+// Refusals 1 and 2 of closure, lengths being counts of bytes.
+#[tactic(auto, unfolding(crate::specs::Exports::closure_refusal, sums::specs::Refusals::lowest_from))]
+fn check_closure(
+    dim: u32,
+    count: u32,
+    vector: usize,
     centroids: usize,
     res: usize,
-    wanted: usize,
-) -> bool
-    requires { (dim ≤ 64) × (k ≤ 64) }
-    ensures { result ≡ (eqb row (dim * 4) && eqb centroids (k * dim * 4) && eqb res wanted) }
+) -> Result<(), Refusal>
+    ensures refused { number_in result ≡ closure_refusal dim count vector centroids res }
+    ensures fits { OnOk result (((dim ≤ 64) × (count ≤ 64)) × ((vector ≡ dim * 4) × ((centroids ≡ count * dim * 4) × (res ≡ count * 2 + 2)))) }
 {
-    let a = checks::both(
-        checks::same(row, dim * 4),
-        checks::same(centroids, k * dim * 4),
-    );
-    checks::both(a, checks::same(res, wanted))
-}
-
-// Refusals 1 and 2, lengths being counts of bytes.
-fn closure_refusal(dim: u32, count: u32, vector: usize, centroids: usize, res: usize) -> u32
-    ensures { result ≡ closure_refusal_lem dim count vector centroids res }
-{
-    if !checks::both(checks::within(1, 64, dim), checks::within(0, 64, count)) {
-        return 1;
+    if !((1..=64).contains(&dim) && (0..=64).contains(&count)) {
+        return Err(Refusal::Range);
     }
+    let width = dim as usize;
     let k = count as usize;
-    if !lengths_fit(dim as usize, k, vector, centroids, res, k * 2 + 2) {
-        return 2;
+    if vector == width * 4 && centroids == k * width * 4 && res == k * 2 + 2 {
+        Ok(())
+    } else {
+        Err(Refusal::Length)
     }
-    0
 }
 
 // The cells and then how many, two bytes each.
@@ -53,8 +47,8 @@ fn put_cells(cells: &[u16], n: u16, res: &mut [u8])
     ensures { res.new ≡ flat_map bytes16 cells.now ++ bytes16 n }
 {
     let at = cells.len() * 2;
-    words::put_halves(cells, &mut res[..at]);
-    words::put_u16(res, at, n);
+    words::put_all(cells, &mut res[..at]);
+    n.put_at(res, at);
 }
 
 // What is left of a call whose lengths fit, with room for the floats and the cells.
@@ -69,25 +63,55 @@ fn closure_inside(
     c: &mut [f32],
     cells: &mut [u16],
     res: &mut [u8],
-) -> u32
+) -> Result<(), Refusal>
     requires vector_len { (length vector.now ≡ length v.old * 4) × (length centroids.now ≡ length c.old * 4) }
     requires v_len { (length v.old ≡ dim) × ((length c.old ≡ count * dim) × (length cells.old ≡ count)) }
     requires res_len { (length res.old ≡ count * 2 + 2) × (res.old ≡ replicate (length res.old) 255) }
     ensures { let row = floats_from dim vector.now in
         let centres = floats_from (count * dim) centroids.now in
         Gave (closure_call epsilon max_replicas dim count row centres count) (length res.old) (closure_written count)
-        result res.new }
+        (number_in result) res.new }
 {
-    words::floats_of(vector, v);
-    words::floats_of(centroids, c);
-    let answer = closure::call::assign(dim, count, max_replicas, epsilon, v, c, cells);
-    match answer {
-        ClosureAnswer::Listed(n) => {
-            put_cells(cells, n, res);
-            0
-        }
-        ClosureAnswer::Refused(number) => number,
-    }
+    words::read_all(vector, v);
+    words::read_all(centroids, c);
+    let n = closure::call::assign(dim, count, max_replicas, epsilon, v, c, cells)?;
+    put_cells(cells, n, res);
+    Ok(())
+}
+
+// The same of any call, over result bytes that are 255.
+fn closure_on(
+    dim: u32,
+    count: u32,
+    max_replicas: u16,
+    epsilon: f32,
+    vector: &[u8],
+    centroids: &[u8],
+    res: &mut [u8],
+) -> Result<(), Refusal>
+    requires { res.old ≡ replicate (length res.old) 255 }
+    ensures { let n = length res.old in
+        let answer = closure_bytes_call epsilon max_replicas dim count vector.now centroids.now n in
+        Gave answer n (closure_written count) (number_in result) res.new }
+{
+    check_closure(dim, count, vector.len(), centroids.len(), res.len())?;
+    let d = dim as usize;
+    let k = count as usize;
+    let mut v = [0.0f32; 64];
+    let mut c = [0.0f32; 4096];
+    let mut cells = [0u16; 64];
+    closure_inside(
+        dim,
+        count,
+        max_replicas,
+        epsilon,
+        vector,
+        centroids,
+        &mut v[..d],
+        &mut c[..k * d],
+        &mut cells[..k],
+        res,
+    )
 }
 
 // The centroids that a row is offered, bytes in and out: 0, or the refusal's number and bytes 255.
@@ -104,42 +128,25 @@ pub fn families_closure(
         let answer = closure_bytes_call epsilon max_replicas dim count vector.now centroids.now n in
         Gave answer n (closure_written count) result res.new }
 {
-    cells::fill_bytes(res, 255);
-    let d = dim as usize;
-    let k = count as usize;
-    let number = closure_refusal(dim, count, vector.len(), centroids.len(), res.len());
-    if number != 0 {
-        return number;
-    }
-    let m = k * d;
-    let mut v = [0.0f32; 64];
-    let mut c = [0.0f32; 4096];
-    let mut cells = [0u16; 64];
-    closure_inside(
-        dim,
-        count,
-        max_replicas,
-        epsilon,
-        vector,
-        centroids,
-        &mut v[..d],
-        &mut c[..m],
-        &mut cells[..k],
-        res,
-    )
+    res.fill(BLANK);
+    code(closure_on(dim, count, max_replicas, epsilon, vector, centroids, res))
 }
 
-// Refusals 1 and 2 likewise.
-fn label_refusal(dim: u32, k: u32, row: usize, centroids: usize, res: usize) -> u32
-    ensures { result ≡ label_refusal_lem dim k row centroids res }
+// Refusals 1 and 2 of a label likewise.
+#[tactic(auto, unfolding(crate::specs::Exports::label_refusal, sums::specs::Refusals::lowest_from))]
+fn check_label(dim: u32, k: u32, row: usize, centroids: usize, res: usize) -> Result<(), Refusal>
+    ensures refused { number_in result ≡ label_refusal dim k row centroids res }
+    ensures fits { OnOk result (((0 < dim) × ((dim ≤ 64) × ((0 < k) × (k ≤ 64)))) × ((row ≡ dim * 4) × ((centroids ≡ k * dim * 4) × (res ≡ 2)))) }
 {
-    if !checks::both(checks::within(1, 64, dim), checks::within(1, 64, k)) {
-        return 1;
+    if !((1..=64).contains(&dim) && (1..=64).contains(&k)) {
+        return Err(Refusal::Range);
     }
-    if !lengths_fit(dim as usize, k as usize, row, centroids, res, 2) {
-        return 2;
+    let width = dim as usize;
+    if row == width * 4 && centroids == k as usize * width * 4 && res == 2 {
+        Ok(())
+    } else {
+        Err(Refusal::Length)
     }
-    0
 }
 
 // What is left of a call whose lengths fit, with room for the floats and the cell.
@@ -153,39 +160,37 @@ fn label_inside(
     c: &mut [f32],
     cell: &mut [u16],
     res: &mut [u8],
-) -> u32
+) -> Result<(), Refusal>
     requires row_len { (length row.now ≡ length v.old * 4) × (length centroids.now ≡ length c.old * 4) }
     requires v_len { (length v.old ≡ dim) × ((length c.old ≡ k * dim) × (length cell.old ≡ 1)) }
     requires dim_nonzero { (0 < dim) × ((dim ≤ 64) × ((0 < k) × (k ≤ 64))) }
     requires res_len { (length res.old ≡ 2) × (res.old ≡ replicate (length res.old) 255) }
     ensures { Gave (label_by mode (placement_of dim k row.now centroids.now)) (length res.old) bytes16
-        result res.new }
+        (number_in result) res.new }
 {
-    words::floats_of(row, v);
-    words::floats_of(centroids, c);
-    let answer = call::label_rows(mode, 1, dim, k, v, c, cell);
-    match answer {
-        LabelAnswer::Labelled(_) => {
-            words::put_u16(res, 0, cell[0]);
-            0
-        }
-        LabelAnswer::Refused(number) => number,
-    }
+    words::read_all(row, v);
+    words::read_all(centroids, c);
+    call::label_rows(mode, 1, dim, k, v, c, cell)?;
+    cell[0].put_at(res, 0);
+    Ok(())
 }
 
-// The label of one row in either way, for the exports of both names.
-fn label_in(mode: Mode, dim: u32, k: u32, row: &[u8], centroids: &[u8], res: &mut [u8]) -> u32
+// The same of any call, over result bytes that are 255.
+fn label_on(
+    mode: Mode,
+    dim: u32,
+    k: u32,
+    row: &[u8],
+    centroids: &[u8],
+    res: &mut [u8],
+) -> Result<(), Refusal>
+    requires { res.old ≡ replicate (length res.old) 255 }
     ensures { let n = length res.old in
-        Gave (label_call mode dim k row.now centroids.now n) n bytes16 result res.new }
+        Gave (label_call mode dim k row.now centroids.now n) n bytes16 (number_in result) res.new }
 {
-    cells::fill_bytes(res, 255);
+    check_label(dim, k, row.len(), centroids.len(), res.len())?;
     let d = dim as usize;
-    let n = k as usize;
-    let number = label_refusal(dim, k, row.len(), centroids.len(), res.len());
-    if number != 0 {
-        return number;
-    }
-    let m = n * d;
+    let m = k as usize * d;
     let mut v = [0.0f32; 64];
     let mut c = [0.0f32; 4096];
     let mut cell = [0u16; 1];
@@ -202,20 +207,21 @@ fn label_in(mode: Mode, dim: u32, k: u32, row: &[u8], centroids: &[u8], res: &mu
     )
 }
 
-// The label of one row, bytes in and out: 0, or the refusal's number and bytes 255; 9 for an unplaced row.
-pub fn families_label(dim: u32, k: u32, row: &[u8], centroids: &[u8], res: &mut [u8]) -> u32
+// The label of one row, bytes in and out: 0, or the refusal's number and bytes 255. An unplaced row is refused by 9, or has label 0 in the old
+// way.
+pub fn families_label(
+    mode: Mode,
+    dim: u32,
+    k: u32,
+    row: &[u8],
+    centroids: &[u8],
+    res: &mut [u8],
+) -> u32
     ensures { let n = length res.old in
-        Gave (label_call Strict dim k row.now centroids.now n) n bytes16 result res.new }
+        Gave (label_call mode dim k row.now centroids.now n) n bytes16 result res.new }
 {
-    label_in(Mode::Strict, dim, k, row, centroids, res)
-}
-
-// The same in the old way: an unplaced row has label 0.
-pub fn families_label_old_way(dim: u32, k: u32, row: &[u8], centroids: &[u8], res: &mut [u8]) -> u32
-    ensures { let n = length res.old in
-        Gave (label_call OldWay dim k row.now centroids.now n) n bytes16 result res.new }
-{
-    label_in(Mode::OldWay, dim, k, row, centroids, res)
+    res.fill(BLANK);
+    code(label_on(mode, dim, k, row, centroids, res))
 }
 
 // A batch file in, its listing out: how many bytes the listing has. A buffer that is too short gets what fits.

@@ -3,6 +3,7 @@
 #![tactic(auto)]
 
 pub mod bytes;
+mod codes;
 pub mod result_file;
 pub mod root;
 pub mod slices;

@@ -2,22 +2,14 @@
 ghost use Rattle.std.specs.Prelude.{◌≡◌, [], ◌∷◌, ℕ, length};
 ghost use Rattle.results.specs.Grouping.{stored};
 ghost use Rattle.results.specs.Files.{reads};
-ghost use Rattle.results.specs.Calls.{write_told, write_call, told, read_call};
+ghost use Rattle.sums.specs.Refused.{told};
+ghost use Rattle.results.specs.Calls.{write_call, numbers_of, read_call};
 ghost use Rattle.exports.specs.Exports.{code_of, figure_of, WriteGave, NumbersGave, ReadGave};
 
-use results::reader::ReadAnswer;
-use results::writer::WriteAnswer;
+use crate::codes::code;
+use results::reader::Numbers;
 use results::{reader, writer};
-
-// 0, or the refusal's number.
-fn write_code(answer: WriteAnswer) -> u32
-    ensures { result ≡ code_of (write_told answer) }
-{
-    match answer {
-        WriteAnswer::Written => 0,
-        WriteAnswer::Refused(number) => number,
-    }
-}
+use sums::refusals::Refusal;
 
 // A grouping's file: 0, or the refusal's number, and then every byte is zero.
 pub fn families_write_result(
@@ -33,32 +25,34 @@ pub fn families_write_result(
         WriteGave (write_call (stored rows dim groups order.now ends.now means.now) n) n result file.new }
 {
     let answer = writer::write_result(rows, dim, groups, order, ends, means, file);
-    write_code(answer)
+    code(answer)
 }
 
 // A file's numbers, apart from the call, and 0 after a refusal.
-fn put_numbers(answer: ReadAnswer, rows: &mut u32, dim: &mut u32, groups: &mut u32) -> u32
-    ensures value { result ≡ code_of (told answer) }
-    ensures rows_after { (rows.new ≡ figure_of 0 (λ (f : ℕ × ℕ × ℕ). f.0) (told answer))
-        × ((dim.new ≡ figure_of 0 (λ (f : ℕ × ℕ × ℕ). f.1) (told answer))
-        × (groups.new ≡ figure_of 0 (λ (f : ℕ × ℕ × ℕ). f.2) (told answer))) }
+#[tactic(auto, unfolding(crate::specs::Exports::code_of, crate::specs::Exports::figure_of))]
+fn put_numbers(
+    answer: Result<Numbers, Refusal>,
+    rows: &mut u32,
+    dim: &mut u32,
+    groups: &mut u32,
+) -> u32
+    ensures value { result ≡ code_of (told numbers_of answer) }
+    ensures rows_after { (rows.new ≡ figure_of 0 (λ (f : ℕ × ℕ × ℕ). f.0) (told numbers_of answer))
+        × ((dim.new ≡ figure_of 0 (λ (f : ℕ × ℕ × ℕ). f.1) (told numbers_of answer))
+        × (groups.new ≡ figure_of 0 (λ (f : ℕ × ℕ × ℕ). f.2) (told numbers_of answer))) }
 {
     match answer {
-        ReadAnswer::Read {
-            rows: n,
-            dim: d,
-            groups: g,
-        } => {
-            *rows = n;
-            *dim = d;
-            *groups = g;
+        Ok(numbers) => {
+            *rows = numbers.rows;
+            *dim = numbers.dim;
+            *groups = numbers.groups;
             0
         }
-        ReadAnswer::Refused(number) => {
+        Err(refusal) => {
             *rows = 0;
             *dim = 0;
             *groups = 0;
-            number
+            u32::from(refusal)
         }
     }
 }

@@ -3,42 +3,44 @@ ghost use Rattle.std.specs.Prelude.{◌≡◌, [], ◌∷◌, ℕ, length, Float
 ghost use Rattle.sums.specs.Rows.{rows_from};
 ghost use Rattle.sums.specs.Sums.{zero32};
 ghost use Rattle.sums.specs.Refusals.{cells_of, Cleared};
-ghost use Rattle.labels.specs.declared.mode.Mode.TheVariants.{Strict, OldWay};
+ghost use Rattle.sums.specs.Refused.{told};
 ghost use Rattle.labels.specs.Label.{distances_of};
-ghost use Rattle.labels.specs.Call.{label_call as label_call_lem, told as labels_told};
-ghost use Rattle.kmeans.specs.Call.{kmeans_call, told as kmeans_told};
-ghost use Rattle.grouping.specs.Answers.{told as groups_told};
+ghost use Rattle.labels.specs.Call.{label_call as label_call_lem};
+ghost use Rattle.kmeans.specs.Call.{kmeans_call, figures as kmeans_figures};
+ghost use Rattle.grouping.specs.Answers.{counted};
 ghost use Rattle.grouping.specs.Call.{grouping_call};
 ghost use Rattle.exports.specs.Exports.{code_of, figure_of, LabelsGave, on_by as on_by_lem, config_of as config_of_lem};
 ghost use Rattle.exports.specs.Exports.{KMeansGave, settings_of as settings_of_lem, GroupGave};
 
 use grouping::config::GroupingConfig;
-use grouping::waiting::GroupingAnswer;
-use kmeans::call::KMeansAnswer;
+use grouping::waiting::Counts;
+use kmeans::call::Outcome;
 use kmeans::config::KMeansConfig;
 use labels::call;
-use labels::call::LabelAnswer;
 use labels::mode::Mode;
+use sums::refusals::Refusal;
 
 // The number of unplaced rows, apart from the call: its slices would be followed through both cases of the answer.
-fn put_unplaced(answer: LabelAnswer, unplaced: &mut u32) -> u32
-    ensures value { result ≡ code_of (labels_told answer) }
-    ensures unplaced_after { unplaced.new ≡ figure_of 0 (λ (n : ℕ). n) (labels_told answer) }
+#[tactic(auto, unfolding(crate::specs::Exports::code_of, crate::specs::Exports::figure_of))]
+fn put_unplaced(answer: Result<u32, Refusal>, unplaced: &mut u32) -> u32
+    ensures value { result ≡ code_of (told (λ (n : ℕ). n) answer) }
+    ensures unplaced_after { unplaced.new ≡ figure_of 0 (λ (n : ℕ). n) (told (λ (n : ℕ). n) answer) }
 {
     match answer {
-        LabelAnswer::Labelled(n) => {
+        Ok(n) => {
             *unplaced = n;
             0
         }
-        LabelAnswer::Refused(number) => {
+        Err(refusal) => {
             *unplaced = 0;
-            number
+            u32::from(refusal)
         }
     }
 }
 
-// Labelling of many rows in either way, for the exports of both names.
-fn label_rows_in(
+// Labelling of many rows, over typed slices: 0, or the refusal's number, 9 where the mode is strict and a row is unplaced; the unplaced rows are 0
+// after a refusal. In the old way unplaced rows have label 0, and are counted.
+pub fn families_label_rows(
     mode: Mode,
     rows: u32,
     dim: u32,
@@ -55,58 +57,8 @@ fn label_rows_in(
     put_unplaced(answer, unplaced)
 }
 
-// Labelling of many rows, over typed slices: 0, or the refusal's number, 9 where a row is unplaced; the unplaced rows are 0 after a refusal.
-pub fn families_label_rows(
-    rows: u32,
-    dim: u32,
-    k: u32,
-    values: &[f32],
-    centroids: &[f32],
-    cells: &mut [u16],
-    unplaced: &mut u32,
-) -> u32
-    ensures { let n = length cells.old in
-        LabelsGave (label_call_lem Strict rows dim k values.now centroids.now n n) n result cells.new unplaced.new }
-{
-    label_rows_in(
-        Mode::Strict,
-        rows,
-        dim,
-        k,
-        values,
-        centroids,
-        cells,
-        unplaced,
-    )
-}
-
-// The same in the old way: unplaced rows have label 0, and are counted.
-pub fn families_label_rows_old_way(
-    rows: u32,
-    dim: u32,
-    k: u32,
-    values: &[f32],
-    centroids: &[f32],
-    cells: &mut [u16],
-    unplaced: &mut u32,
-) -> u32
-    ensures { let n = length cells.old in
-        LabelsGave (label_call_lem OldWay rows dim k values.now centroids.now n n) n result cells.new unplaced.new }
-{
-    label_rows_in(
-        Mode::OldWay,
-        rows,
-        dim,
-        k,
-        values,
-        centroids,
-        cells,
-        unplaced,
-    )
-}
-
-// Labelling with distances in either way.
-fn place_rows_in(
+// Labelling with each row's distance, +0.0 after a refusal. In the old way it is infinite exactly where the row is unplaced.
+pub fn families_place_rows(
     mode: Mode,
     rows: u32,
     dim: u32,
@@ -125,85 +77,31 @@ fn place_rows_in(
     put_unplaced(answer, unplaced)
 }
 
-// Labelling with each row's distance, +0.0 after a refusal.
-pub fn families_place_rows(
-    rows: u32,
-    dim: u32,
-    k: u32,
-    values: &[f32],
-    centroids: &[f32],
-    cells: &mut [u16],
-    distances: &mut [f32],
-    unplaced: &mut u32,
-) -> u32
-    ensures { let n = length cells.old in let m = length distances.old in
-        let answer = label_call_lem Strict rows dim k values.now centroids.now n m in
-        LabelsGave answer n result cells.new unplaced.new × (distances.new ≡ cells_of zero32 m distances_of answer) }
-{
-    place_rows_in(
-        Mode::Strict,
-        rows,
-        dim,
-        k,
-        values,
-        centroids,
-        cells,
-        distances,
-        unplaced,
-    )
-}
-
-// The same in the old way: the distance is infinite exactly where the row is unplaced.
-pub fn families_place_rows_old_way(
-    rows: u32,
-    dim: u32,
-    k: u32,
-    values: &[f32],
-    centroids: &[f32],
-    cells: &mut [u16],
-    distances: &mut [f32],
-    unplaced: &mut u32,
-) -> u32
-    ensures { let n = length cells.old in let m = length distances.old in
-        let answer = label_call_lem OldWay rows dim k values.now centroids.now n m in
-        LabelsGave answer n result cells.new unplaced.new × (distances.new ≡ cells_of zero32 m distances_of answer) }
-{
-    place_rows_in(
-        Mode::OldWay,
-        rows,
-        dim,
-        k,
-        values,
-        centroids,
-        cells,
-        distances,
-        unplaced,
-    )
-}
-
 // The objective, the restart kept and its unplaced rows, apart from the call likewise.
-fn put_kept(answer: KMeansAnswer, objective: &mut f64, restart: &mut u32, unplaced: &mut u32) -> u32
-    ensures value { result ≡ code_of (kmeans_told answer) }
-    ensures objective_after { (objective.new ≡ figure_of zero32 (λ (f : Float × ℕ × ℕ). f.0) (kmeans_told answer))
-        × ((restart.new ≡ figure_of 0 (λ (f : Float × ℕ × ℕ). f.1) (kmeans_told answer))
-        × (unplaced.new ≡ figure_of 0 (λ (f : Float × ℕ × ℕ). f.2) (kmeans_told answer))) }
+#[tactic(auto, unfolding(crate::specs::Exports::code_of, crate::specs::Exports::figure_of))]
+fn put_kept(
+    answer: Result<Outcome, Refusal>,
+    objective: &mut f64,
+    restart: &mut u32,
+    unplaced: &mut u32,
+) -> u32
+    ensures value { result ≡ code_of (told kmeans_figures answer) }
+    ensures objective_after { (objective.new ≡ figure_of zero32 (λ (f : Float × ℕ × ℕ). f.0) (told kmeans_figures answer))
+        × ((restart.new ≡ figure_of 0 (λ (f : Float × ℕ × ℕ). f.1) (told kmeans_figures answer))
+        × (unplaced.new ≡ figure_of 0 (λ (f : Float × ℕ × ℕ). f.2) (told kmeans_figures answer))) }
 {
     match answer {
-        KMeansAnswer::Accepted {
-            objective: o,
-            restart: r,
-            unplaced: u,
-        } => {
-            *objective = o;
-            *restart = r;
-            *unplaced = u;
+        Ok(kept) => {
+            *objective = kept.objective;
+            *restart = kept.restart;
+            *unplaced = kept.unplaced;
             0
         }
-        KMeansAnswer::Refused(number) => {
+        Err(refusal) => {
             *objective = 0.0f64;
             *restart = 0;
             *unplaced = 0;
-            number
+            u32::from(refusal)
         }
     }
 }
@@ -235,13 +133,18 @@ fn config_of(
     }
 }
 
-// K-means in either way.
-fn kmeans_in(
+// K-means over typed slices: 0, or the refusal's number, 9 where the mode is strict and the restart kept leaves a row unplaced; the objective,
+// the restart kept and its unplaced rows are +0.0, 0 and 0 after a refusal.
+pub fn families_kmeans(
     mode: Mode,
     rows: u32,
     dim: u32,
     k: u32,
-    config: KMeansConfig,
+    iterations: u32,
+    restarts: u32,
+    points: u32,
+    block: u32,
+    spherical: u32,
     draws: &[u32],
     values: &[f32],
     labels: &mut [u16],
@@ -252,129 +155,44 @@ fn kmeans_in(
     training: &mut [f32],
 ) -> u32
     ensures fact { let lent = length labels.old ∷ length centroids.old ∷ length training.old ∷ [] in
+        let config = config_of_lem iterations restarts points block spherical in
         KMeansGave (kmeans_call mode rows dim k config draws.now values.now lent) (length labels.old)
         (length centroids.old) result labels.new centroids.new objective.new restart.new
         unplaced.new }
     ensures cleared { Cleared zero32 training.new }
 {
+    let config = config_of(iterations, restarts, points, block, spherical);
     let answer = kmeans::call::run_kmeans_with_config(
         mode, rows, dim, k, config, draws, values, labels, centroids, training,
     );
     put_kept(answer, objective, restart, unplaced)
 }
 
-// K-means over typed slices: 0, or the refusal's number, 9 where the restart kept leaves a row unplaced; the objective, the restart kept and
-// its unplaced rows are +0.0, 0 and 0 after a refusal.
-pub fn families_kmeans(
-    rows: u32,
-    dim: u32,
-    k: u32,
-    iterations: u32,
-    restarts: u32,
-    points: u32,
-    block: u32,
-    spherical: u32,
-    draws: &[u32],
-    values: &[f32],
-    labels: &mut [u16],
-    centroids: &mut [f32],
-    objective: &mut f64,
-    restart: &mut u32,
-    unplaced: &mut u32,
-    training: &mut [f32],
-) -> u32
-    ensures fact { let lent = length labels.old ∷ length centroids.old ∷ length training.old ∷ [] in
-        let config = config_of_lem iterations restarts points block spherical in
-        KMeansGave (kmeans_call Strict rows dim k config draws.now values.now lent) (length labels.old)
-        (length centroids.old) result labels.new centroids.new objective.new restart.new
-        unplaced.new }
-    ensures cleared { Cleared zero32 training.new }
-{
-    let config = config_of(iterations, restarts, points, block, spherical);
-    kmeans_in(
-        Mode::Strict,
-        rows,
-        dim,
-        k,
-        config,
-        draws,
-        values,
-        labels,
-        centroids,
-        objective,
-        restart,
-        unplaced,
-        training,
-    )
-}
-
-// The same in the old way.
-pub fn families_kmeans_old_way(
-    rows: u32,
-    dim: u32,
-    k: u32,
-    iterations: u32,
-    restarts: u32,
-    points: u32,
-    block: u32,
-    spherical: u32,
-    draws: &[u32],
-    values: &[f32],
-    labels: &mut [u16],
-    centroids: &mut [f32],
-    objective: &mut f64,
-    restart: &mut u32,
-    unplaced: &mut u32,
-    training: &mut [f32],
-) -> u32
-    ensures fact { let lent = length labels.old ∷ length centroids.old ∷ length training.old ∷ [] in
-        let config = config_of_lem iterations restarts points block spherical in
-        KMeansGave (kmeans_call OldWay rows dim k config draws.now values.now lent) (length labels.old)
-        (length centroids.old) result labels.new centroids.new objective.new restart.new
-        unplaced.new }
-    ensures cleared { Cleared zero32 training.new }
-{
-    let config = config_of(iterations, restarts, points, block, spherical);
-    kmeans_in(
-        Mode::OldWay,
-        rows,
-        dim,
-        k,
-        config,
-        draws,
-        values,
-        labels,
-        centroids,
-        objective,
-        restart,
-        unplaced,
-        training,
-    )
-}
-
 // The numbers of groups, of splits and of unplaced rows, apart from the call.
-fn put_counts(answer: GroupingAnswer, groups: &mut u32, splits: &mut u32, unplaced: &mut u32) -> u32
-    ensures value { result ≡ code_of (groups_told answer) }
-    ensures groups_after { (groups.new ≡ figure_of 0 (λ (f : ℕ × ℕ × ℕ). f.0) (groups_told answer))
-        × ((splits.new ≡ figure_of 0 (λ (f : ℕ × ℕ × ℕ). f.1) (groups_told answer))
-        × (unplaced.new ≡ figure_of 0 (λ (f : ℕ × ℕ × ℕ). f.2) (groups_told answer))) }
+#[tactic(auto, unfolding(crate::specs::Exports::code_of, crate::specs::Exports::figure_of))]
+fn put_counts(
+    answer: Result<Counts, Refusal>,
+    groups: &mut u32,
+    splits: &mut u32,
+    unplaced: &mut u32,
+) -> u32
+    ensures value { result ≡ code_of (told counted answer) }
+    ensures groups_after { (groups.new ≡ figure_of 0 (λ (f : ℕ × ℕ × ℕ). f.0) (told counted answer))
+        × ((splits.new ≡ figure_of 0 (λ (f : ℕ × ℕ × ℕ). f.1) (told counted answer))
+        × (unplaced.new ≡ figure_of 0 (λ (f : ℕ × ℕ × ℕ). f.2) (told counted answer))) }
 {
     match answer {
-        GroupingAnswer::Accepted {
-            groups: g,
-            splits: s,
-            unplaced: u,
-        } => {
-            *groups = g;
-            *splits = s;
-            *unplaced = u;
+        Ok(counts) => {
+            *groups = counts.groups;
+            *splits = counts.splits;
+            *unplaced = counts.unplaced;
             0
         }
-        GroupingAnswer::Refused(number) => {
+        Err(refusal) => {
             *groups = 0;
             *splits = 0;
             *unplaced = 0;
-            number
+            u32::from(refusal)
         }
     }
 }
@@ -401,11 +219,17 @@ fn settings_of(
     }
 }
 
-// Grouping by these settings.
-fn group_by(
+// Grouping over typed slices: 0, or the refusal's number, 9 where the mode is strict and a split leaves a row unplaced; the counts are 0 after a
+// refusal. In the old way the unplaced rows are summed over the splits.
+pub fn families_group(
+    mode: Mode,
     rows: u32,
     dim: u32,
-    config: GroupingConfig,
+    limit: u32,
+    branching: u32,
+    weight: f32,
+    budget: u32,
+    spherical: u32,
     draws: &[u32],
     values: &[f32],
     order: &mut [u16],
@@ -419,84 +243,15 @@ fn group_by(
 ) -> u32
     ensures fact { let lent = length order.old ∷ length ends.old ∷ length means.old
         ∷ length gathered.old ∷ length training.old ∷ [] in
-        let answer = grouping_call rows dim config draws.now values.now lent in
+        let answer = grouping_call rows dim (settings_of_lem mode limit branching weight budget spherical) draws.now values.now lent in
         GroupGave answer dim (rows_from dim rows values.now) (length order.old) (length ends.old)
         (length means.old) result order.new ends.new means.new groups.new splits.new
         unplaced.new }
     ensures cleared { Cleared zero32 gathered.new × Cleared zero32 training.new }
 {
+    let config = settings_of(mode, limit, branching, weight, budget, spherical);
     let answer = grouping::call::hierarchical_clustering(
         rows, dim, config, draws, values, order, ends, means, gathered, training,
     );
     put_counts(answer, groups, splits, unplaced)
-}
-
-// Grouping over typed slices: 0, or the refusal's number, 9 where a split leaves a row unplaced; the counts are 0 after a refusal.
-pub fn families_group(
-    rows: u32,
-    dim: u32,
-    limit: u32,
-    branching: u32,
-    weight: f32,
-    budget: u32,
-    spherical: u32,
-    draws: &[u32],
-    values: &[f32],
-    order: &mut [u16],
-    ends: &mut [u16],
-    means: &mut [f32],
-    groups: &mut u32,
-    splits: &mut u32,
-    unplaced: &mut u32,
-    gathered: &mut [f32],
-    training: &mut [f32],
-) -> u32
-    ensures fact { let lent = length order.old ∷ length ends.old ∷ length means.old
-        ∷ length gathered.old ∷ length training.old ∷ [] in
-        let answer = grouping_call rows dim (settings_of_lem Strict limit branching weight budget spherical) draws.now values.now lent in
-        GroupGave answer dim (rows_from dim rows values.now) (length order.old) (length ends.old)
-        (length means.old) result order.new ends.new means.new groups.new splits.new
-        unplaced.new }
-    ensures cleared { Cleared zero32 gathered.new × Cleared zero32 training.new }
-{
-    let config = settings_of(Mode::Strict, limit, branching, weight, budget, spherical);
-    group_by(
-        rows, dim, config, draws, values, order, ends, means, groups, splits, unplaced, gathered,
-        training,
-    )
-}
-
-// The same in the old way: the unplaced rows are summed over the splits.
-pub fn families_group_old_way(
-    rows: u32,
-    dim: u32,
-    limit: u32,
-    branching: u32,
-    weight: f32,
-    budget: u32,
-    spherical: u32,
-    draws: &[u32],
-    values: &[f32],
-    order: &mut [u16],
-    ends: &mut [u16],
-    means: &mut [f32],
-    groups: &mut u32,
-    splits: &mut u32,
-    unplaced: &mut u32,
-    gathered: &mut [f32],
-    training: &mut [f32],
-) -> u32
-    ensures fact { let lent = length order.old ∷ length ends.old ∷ length means.old
-        ∷ length gathered.old ∷ length training.old ∷ [] in
-        let answer = grouping_call rows dim (settings_of_lem OldWay limit branching weight budget spherical) draws.now values.now lent in
-        GroupGave answer dim (rows_from dim rows values.now) (length order.old) (length ends.old)
-        (length means.old) result order.new ends.new means.new groups.new splits.new
-        unplaced.new }
-    ensures cleared { Cleared zero32 gathered.new × Cleared zero32 training.new }
-{
-    let config = settings_of(Mode::OldWay, limit, branching, weight, budget, spherical);
-    group_by(
-        rows, dim, config, draws, values, order, ends, means, groups, splits, unplaced, gathered,
-        training,
-    )
 }

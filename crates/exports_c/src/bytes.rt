@@ -5,6 +5,8 @@ ghost use Rattle.labels.specs.declared.mode.Mode.TheVariants.{Strict, OldWay};
 ghost use Rattle.batch.specs.Batch.{listing_of, put_front};
 ghost use Rattle.exports.specs.Exports.{Gave, label_call, closure_bytes_call, closure_written};
 
+use labels::mode::Mode;
+
 // The centroids that a row is offered, bytes in and out: 0, or the refusal's number and bytes 255.
 #[unsafe(no_mangle)]
 pub extern "C" fn families_closure(
@@ -35,7 +37,7 @@ pub extern "C" fn families_label(
     ensures { let n = length res.old in
         Gave (label_call Strict dim k row.now centroids.now n) n bytes16 result res.new }
 {
-    exports::bytes::families_label(dim, k, row, centroids, res)
+    exports::bytes::families_label(Mode::Strict, dim, k, row, centroids, res)
 }
 
 // The same in the old way: an unplaced row has label 0.
@@ -50,7 +52,7 @@ pub extern "C" fn families_label_old_way(
     ensures { let n = length res.old in
         Gave (label_call OldWay dim k row.now centroids.now n) n bytes16 result res.new }
 {
-    exports::bytes::families_label_old_way(dim, k, row, centroids, res)
+    exports::bytes::families_label(Mode::OldWay, dim, k, row, centroids, res)
 }
 
 // A batch file in, its listing out: how many bytes the listing has. A buffer that is too short gets what fits.

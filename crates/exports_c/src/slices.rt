@@ -10,6 +10,8 @@ ghost use Rattle.kmeans.specs.Call.{kmeans_call};
 ghost use Rattle.grouping.specs.Call.{grouping_call};
 ghost use Rattle.exports.specs.Exports.{LabelsGave, config_of as config_of_lem, KMeansGave, settings_of as settings_of_lem, GroupGave};
 
+use labels::mode::Mode;
+
 // Labelling of many rows, over typed slices: 0, or the refusal's number, 9 where a row is unplaced; the unplaced rows are 0 after a refusal.
 #[unsafe(no_mangle)]
 pub extern "C" fn families_label_rows(
@@ -24,7 +26,16 @@ pub extern "C" fn families_label_rows(
     ensures { let n = length cells.old in
         LabelsGave (label_call_lem Strict rows dim k values.now centroids.now n n) n result cells.new unplaced.new }
 {
-    exports::slices::families_label_rows(rows, dim, k, values, centroids, cells, unplaced)
+    exports::slices::families_label_rows(
+        Mode::Strict,
+        rows,
+        dim,
+        k,
+        values,
+        centroids,
+        cells,
+        unplaced,
+    )
 }
 
 // The same in the old way: unplaced rows have label 0, and are counted.
@@ -41,7 +52,16 @@ pub extern "C" fn families_label_rows_old_way(
     ensures { let n = length cells.old in
         LabelsGave (label_call_lem OldWay rows dim k values.now centroids.now n n) n result cells.new unplaced.new }
 {
-    exports::slices::families_label_rows_old_way(rows, dim, k, values, centroids, cells, unplaced)
+    exports::slices::families_label_rows(
+        Mode::OldWay,
+        rows,
+        dim,
+        k,
+        values,
+        centroids,
+        cells,
+        unplaced,
+    )
 }
 
 // Labelling with each row's distance, +0.0 after a refusal.
@@ -61,7 +81,15 @@ pub extern "C" fn families_place_rows(
         LabelsGave answer n result cells.new unplaced.new × (distances.new ≡ cells_of zero32 m distances_of answer) }
 {
     exports::slices::families_place_rows(
-        rows, dim, k, values, centroids, cells, distances, unplaced,
+        Mode::Strict,
+        rows,
+        dim,
+        k,
+        values,
+        centroids,
+        cells,
+        distances,
+        unplaced,
     )
 }
 
@@ -81,8 +109,16 @@ pub extern "C" fn families_place_rows_old_way(
         let answer = label_call_lem OldWay rows dim k values.now centroids.now n m in
         LabelsGave answer n result cells.new unplaced.new × (distances.new ≡ cells_of zero32 m distances_of answer) }
 {
-    exports::slices::families_place_rows_old_way(
-        rows, dim, k, values, centroids, cells, distances, unplaced,
+    exports::slices::families_place_rows(
+        Mode::OldWay,
+        rows,
+        dim,
+        k,
+        values,
+        centroids,
+        cells,
+        distances,
+        unplaced,
     )
 }
 
@@ -115,8 +151,23 @@ pub extern "C" fn families_kmeans(
     ensures cleared { Cleared zero32 training.new }
 {
     exports::slices::families_kmeans(
-        rows, dim, k, iterations, restarts, points, block, spherical, draws, values, labels,
-        centroids, objective, restart, unplaced, training,
+        Mode::Strict,
+        rows,
+        dim,
+        k,
+        iterations,
+        restarts,
+        points,
+        block,
+        spherical,
+        draws,
+        values,
+        labels,
+        centroids,
+        objective,
+        restart,
+        unplaced,
+        training,
     )
 }
 
@@ -147,9 +198,24 @@ pub extern "C" fn families_kmeans_old_way(
         unplaced.new }
     ensures cleared { Cleared zero32 training.new }
 {
-    exports::slices::families_kmeans_old_way(
-        rows, dim, k, iterations, restarts, points, block, spherical, draws, values, labels,
-        centroids, objective, restart, unplaced, training,
+    exports::slices::families_kmeans(
+        Mode::OldWay,
+        rows,
+        dim,
+        k,
+        iterations,
+        restarts,
+        points,
+        block,
+        spherical,
+        draws,
+        values,
+        labels,
+        centroids,
+        objective,
+        restart,
+        unplaced,
+        training,
     )
 }
 
@@ -183,8 +249,24 @@ pub extern "C" fn families_group(
     ensures cleared { Cleared zero32 gathered.new × Cleared zero32 training.new }
 {
     exports::slices::families_group(
-        rows, dim, limit, branching, weight, budget, spherical, draws, values, order, ends, means,
-        groups, splits, unplaced, gathered, training,
+        Mode::Strict,
+        rows,
+        dim,
+        limit,
+        branching,
+        weight,
+        budget,
+        spherical,
+        draws,
+        values,
+        order,
+        ends,
+        means,
+        groups,
+        splits,
+        unplaced,
+        gathered,
+        training,
     )
 }
 
@@ -217,8 +299,24 @@ pub extern "C" fn families_group_old_way(
         unplaced.new }
     ensures cleared { Cleared zero32 gathered.new × Cleared zero32 training.new }
 {
-    exports::slices::families_group_old_way(
-        rows, dim, limit, branching, weight, budget, spherical, draws, values, order, ends, means,
-        groups, splits, unplaced, gathered, training,
+    exports::slices::families_group(
+        Mode::OldWay,
+        rows,
+        dim,
+        limit,
+        branching,
+        weight,
+        budget,
+        spherical,
+        draws,
+        values,
+        order,
+        ends,
+        means,
+        groups,
+        splits,
+        unplaced,
+        gathered,
+        training,
     )
 }

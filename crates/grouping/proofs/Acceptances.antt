@@ -7,21 +7,17 @@ use lib.ListN.{length, get_or, take, replicate}
 use lib.Seq.{take_at, get_or-take}
 use Rattle.sums.specs.Cells.{Below}
 use Rattle.sums.specs.Refusals.{Answer, accepted, refused, on_accepted, padded, blank_cell}
-use Rattle.grouping.specs.declared.waiting.GroupingAnswer.{GroupingAnswer}
-use Rattle.grouping.specs.declared.waiting.GroupingAnswer.TheVariants.{Accepted}
+use Rattle.std.specs.Prelude.{Ok}
+use Rattle.grouping.specs.declared.waiting.Counts.{Counts}
 use Rattle.grouping.specs.Groups.{Groups, ends_from}
 use Rattle.grouping.specs.Inside.{Grouped}
-use Rattle.grouping.specs.Answers.{figures}
+use Rattle.grouping.specs.Answers.{counted, figures}
 use Rattle.grouping.proofs.Averages.{heads}
 use Rattle.sums.proofs.Refusing.{padded_is}
 use Rattle.grouping.proofs.Stretches.{part_within, ends_length, start_is, end_is}
 
--- the same, its cells counted otherwise
-pub grouped_at : {answer : Answer Groups} {n : ℕ} {r : GroupingAnswer} {order ends : List ℕ} (m : ℕ) → m ≡ n → Grouped answer n r order ends → Grouped answer m r order ends
-grouped_at m e g = rw e g
-
 -- the acceptance that the code's answer tells of, and its groups as they stand in the row order and the ends
-pub record Taken (answer : Answer Groups) (n groups splits unplaced : ℕ) (order ends : List ℕ) : Type 0 where
+pub record Taken (answer : Answer Groups) (n groups : ℕ) (order ends : List ℕ) : Type 0 where
   pub g : Groups
   pub is : answer ≡ accepted g
   pub many : length g.groups ≡ groups
@@ -31,14 +27,14 @@ pub record Taken (answer : Answer Groups) (n groups splits unplaced : ℕ) (orde
   pub below : Below n order
   pub fits : groups ≤ n
 
-pub taken : (answer : Answer Groups) (n groups splits unplaced : ℕ) (order ends : List ℕ) → Grouped answer n (Accepted groups splits unplaced) order ends
-    → Taken answer n groups splits unplaced order ends
+pub taken : (answer : Answer Groups) (n : ℕ) (counts : Counts) (order ends : List ℕ) → Grouped answer n (Ok counts) order ends
+    → Taken answer n counts.groups order ends
 unfolding on_accepted
-taken (accepted g) n groups splits unplaced order ends h =
+taken (accepted g) n counts order ends h =
     let gs = g.groups in
     let l = h.listed g refl in
-    let z : ◌≡◌ {A = ℕ × ℕ × ℕ} (groups, splits, unplaced) (figures g) = let r = h.result in cc in
-    let m : groups ≡ length gs = ap (λ (f : ℕ × ℕ × ℕ). f.0) z in
+    let z : ◌≡◌ {A = ℕ × ℕ × ℕ} (counted counts) (figures g) = let r = h.result in cc in
+    let m : counts.groups ≡ length gs = ap (λ (f : ℕ × ℕ × ℕ). f.0) z in
     let w : n ≡ length (ends_from 0 gs) + (n - length gs) = omega (arith, l.1.1.1, ends_length 0 gs) in
     record {
       g = g;
@@ -50,12 +46,12 @@ taken (accepted g) n groups splits unplaced order ends h =
       below = l.1.1.0;
       fits = omega (arith, m, l.1.1.1);
     }
-taken (refused number) n groups splits unplaced order ends h =
+taken (refused number) n counts order ends h =
     let r = h.result in
     let z : ◌≡◌ {A = ℕ} 0 1 = cc in
     absurd (omega arith)
 
-pub cut : {answer : Answer Groups} {groups splits unplaced : ℕ} {order ends : List ℕ} → Taken answer (length order) groups splits unplaced order ends
+pub cut : {answer : Answer Groups} {groups : ℕ} {order ends : List ℕ} → Taken answer (length order) groups order ends
     → Below (length order) order × ((i : ℕ) → i < groups → (get_or (0 ∷ ends) i 0 ≤ get_or ends i 0) × (get_or ends i 0 ≤ length order))
 cut {groups = groups} {order = order} {ends = ends} t =
     let gs = t.g.groups in (

@@ -6,14 +6,14 @@ use native.Mathlib.Numerals.{add-one}
 use native.Mathlib.Nat.{add-sub_cancel_left}
 use native.Mathlib.Omega.{arith}
 use borrow.Rule.Slice.PartMut.{put_mid, mid_of, same_len_mid}
-use lib.Ieee.{Float, binary32, div, nan}
-use lib.ListN.{length, get_or, take, drop, set, replicate, length-map, length-replicate, drop_of_length-le}
+use lib.Ieee.{Float, binary32, div}
+use lib.ListN.{length, get_or, take, drop, replicate, length-map, length-replicate, drop_of_length-le}
 use lib.Seq.{drop-cons, take-suc, take_all, length-take-le, get_or-take}
-use Rattle.sums.specs.Tables.{tabulate}
-use Rattle.sums.specs.Rows.{Row, rows_at, rows_from}
+use Rattle.sums.specs.Rows.{Row, rows_at}
+use Rattle.sums.specs.Table.{rows_of}
+use Rattle.sums.specs.declared.readings.Rows.{Rows}
 use Rattle.sums.specs.Sums.{zero32, count32, add_row, zero_row}
 use Rattle.sums.specs.Refusals.{padded}
-use Rattle.sums.proofs.Tables.{over_read, over_more, over_done, map_index}
 use Rattle.sums.specs.Cells.{Below}
 use Rattle.sums.proofs.Rows.{room, part_length}
 use Rattle.sums.proofs.Fronts.{flat_length}
@@ -24,18 +24,6 @@ use Rattle.grouping.proofs.Stretches.{flatten_part, flat_map_snoc, padded_part, 
 -- ---- division in place
 abbrev pub divided_by : ℕ → Row → Row
 divided_by count sums = map (λ s. div binary32 s (count32 count)) sums
-
-abbrev pub quotient : ℕ → Row → ℕ → Float
-quotient count sums j = div binary32 (get_or sums j nan) (count32 count)
-
-pub divide_more : (count : ℕ) (s₀ s : Row) (i : ℕ) → i < length s₀ → s ≡ tabulate (quotient count s₀) i ++ drop i s₀
-    → set s i (quotient count s i) ≡ tabulate (quotient count s₀) (i + 1) ++ drop (i + 1) s₀
-divide_more count s₀ s i h e =
-    rw e (over_more (quotient count s₀) s₀ i (quotient count (tabulate (quotient count s₀) i ++ drop i s₀) i) h (rw (over_read (quotient count s₀) s₀ i nan h)))
-
-pub divide_end : (count : ℕ) (s₀ s : Row) (i : ℕ) → i ≡ length s₀ → s ≡ tabulate (quotient count s₀) i ++ drop i s₀ → s ≡ divided_by count s₀
-divide_end count s₀ s i e h =
-    h ∙ over_done (quotient count s₀) s₀ i (omega arith) ∙ rw e (sym (map_index (λ x. div binary32 x (count32 count)) s₀ nan))
 
 -- ---- a group's rows added
 abbrev pub add_rows : Row → List Row → Row
@@ -64,67 +52,67 @@ pub rows_end : (rows : List Row) (group : List ℕ) (mean whole : Row) (i : ℕ)
 rows_end rows group mean whole i h e = rw (drop_of_length-le group {i = i} h) at e
 
 -- ---- the groups one after the other: g of them are done, and the next starts at `start`
-pub record Filling (values : Row) (dim : ℕ) (order ends : List ℕ) (groups : ℕ) (means₀ means : Row) (start g : ℕ) : Type 0 where
+pub record Filling (rows : Rows) (order ends : List ℕ) (groups : ℕ) (means₀ means : Row) (start g : ℕ) : Type 0 where
   pub within : g ≤ groups
   pub size : length means ≡ length means₀
   pub begin : start ≡ get_or (0 ∷ take groups ends) g 0
   pub filled : (gs : List (List ℕ)) → order ≡ flatten gs → take groups ends ≡ ends_from 0 gs
-      → means ≡ padded zero32 (length means₀) (flat_map (mean_of dim (rows_from dim (length order) values)) (take g gs))
+      → means ≡ padded zero32 (length means₀) (flat_map (mean_of rows.dim (rows_of rows)) (take g gs))
 
 -- where a group starts, read in the front of the ends or in all of them
 pub heads : (groups : ℕ) (ends : List ℕ) (i : ℕ) → i < groups → get_or (0 ∷ take groups ends) i 0 ≡ get_or (0 ∷ ends) i 0
 heads groups ends zero h = refl
 heads groups ends (suc i) h = get_or-take groups ends i 0 (omega arith)
 
-pub filling_start : (values : Row) (dim : ℕ) (order ends : List ℕ) (groups : ℕ) (means : Row) → means ≡ replicate (length means) zero32
-    → Filling values dim order ends groups means means 0 0
+pub filling_start : (rows : Rows) (order ends : List ℕ) (groups : ℕ) (means : Row) → means ≡ replicate (length means) zero32
+    → Filling rows order ends groups means means 0 0
 unfolding flat_map
-filling_start values dim order ends groups means e = record {
+filling_start rows order ends groups means e = record {
   within = omega arith;
   size = refl;
   begin = refl;
   filled = λ gs p q. e ∙ sym (padded_none zero32 (length means));
 }
 
-module _ {values : Row} {dim : ℕ} {order ends : List ℕ} {groups : ℕ} {means₀ means : Row} {start g : ℕ} (h : Filling values dim order ends groups means₀ means start g)
+module _ {rows : Rows} {order ends : List ℕ} {groups : ℕ} {means₀ means : Row} {start g : ℕ} (h : Filling rows order ends groups means₀ means start g)
     (fits : groups ≤ length ends) where
   as_many : (gs : List (List ℕ)) → take groups ends ≡ ends_from 0 gs → length gs ≡ groups
   as_many gs q = sym (ends_length 0 gs) ∙ (ap length (sym q) ∙ length-take-le groups ends fits)
 
   pub filling_end : groups ≤ g → (gs : List (List ℕ)) → order ≡ flatten gs → take groups ends ≡ ends_from 0 gs
-      → means ≡ padded zero32 (length means₀) (flat_map (mean_of dim (rows_from dim (length order) values)) gs)
+      → means ≡ padded zero32 (length means₀) (flat_map (mean_of rows.dim (rows_of rows)) gs)
   filling_end k gs p q = h.filled gs p q ∙ rw (take_all g gs (omega (arith, as_many gs q)))
 
-  module _ (cut : Below (length order) order × ((i : ℕ) → i < groups → (get_or (0 ∷ ends) i 0 ≤ get_or ends i 0) × (get_or ends i 0 ≤ length order))) (rows : length ends ≡ length order) (cells : length means₀ ≡ length order * dim) (p : g < groups)
+  module _ (cut : Below (length order) order × ((i : ℕ) → i < groups → (get_or (0 ∷ ends) i 0 ≤ get_or ends i 0) × (get_or ends i 0 ≤ length order))) (many : length ends ≡ length order) (cells : length means₀ ≡ length order * rows.dim) (p : g < groups)
       (end : ℕ) (q : end ≡ get_or ends g 0) where
     end_at : end ≡ get_or (take groups ends) g 0
     end_at = q ∙ sym (get_or-take groups ends g 0 p)
 
-    pub filling_room : ((start ≤ end) × (end ≤ length order)) × (g * dim + dim ≤ length means)
+    pub filling_room : ((start ≤ end) × (end ≤ length order)) × (g * rows.dim + rows.dim ≤ length means)
     filling_room = (
       (omega (arith, h.begin, heads groups ends g p, q, (cut.1 g p).0), omega (arith, q, (cut.1 g p).1)),
-      omega (arith, h.size, room g (length order) dim (omega arith)),
+      omega (arith, h.size, room g (length order) rows.dim (omega arith)),
     )
 
-    pub filling_more : (last : Row) → last ≡ mean_of dim (rows_from dim (length order) values) (mid_of start (end - start) order)
-        → Filling values dim order ends groups means₀ (put_mid (g * dim) (g * dim + dim - g * dim) means last) end (g + 1)
+    pub filling_more : (last : Row) → last ≡ mean_of rows.dim (rows_of rows) (mid_of start (end - start) order)
+        → Filling rows order ends groups means₀ (put_mid (g * rows.dim) (g * rows.dim + rows.dim - g * rows.dim) means last) end (g + 1)
     filling_more last e = record {
       within = omega arith;
-      size = same_len_mid {X = Float} (g * dim) (g * dim + dim - g * dim) means last (ap length e ∙ mean_length dim _ _ ∙ sym (part_length (g * dim) dim means filling_room.1)) ∙ h.size;
+      size = same_len_mid {X = Float} (g * rows.dim) (g * rows.dim + rows.dim - g * rows.dim) means last (ap length e ∙ mean_length rows.dim _ _ ∙ sym (part_length (g * rows.dim) rows.dim means filling_room.1)) ∙ h.size;
       begin = rw (add-one g) end_at;
       filled = λ gs o w.
-          let R = rows_from dim (length order) values in
+          let R = rows_of rows in
           let n : length gs ≡ groups = as_many gs w in
           let b : start ≡ length (flatten (take g gs)) = h.begin ∙ rw w (start_is 0 gs g (omega arith) ∙ omega arith) in
           let d : end ≡ length (flatten (take g gs)) + length (get_or gs g []) = end_at ∙ rw w (end_is 0 gs g (omega arith) ∙ omega arith) in
           let z : end - start ≡ length (get_or gs g []) = omega arith in
           let m : mid_of start (end - start) order ≡ get_or gs g [] = rw (z, b, o) (flatten_part gs g (omega arith)) in
-          let x : length (flat_map (mean_of dim R) (take g gs)) ≡ g * dim
-          = flat_length (mean_of dim R) dim (mean_length dim R) (take g gs) ∙ rw (length-take-le g gs (omega arith)) in
-          let l : length (mean_of dim R (get_or gs g [])) ≡ dim = mean_length dim R (get_or gs g []) in
-          let t : flat_map (mean_of dim R) (take (g + 1) gs) ≡ flat_map (mean_of dim R) (take g gs) ++ mean_of dim R (get_or gs g [])
-          = rw (add-one g, take-suc gs g [] (omega arith)) (flat_map_snoc (mean_of dim R) (take g gs) (get_or gs g [])) in
-          let f : length (flat_map (mean_of dim R) (take g gs)) + length (mean_of dim R (get_or gs g [])) ≤ length means₀ = omega (arith, filling_room.1, h.size) in
-          let r = padded_part zero32 (length means₀) (flat_map (mean_of dim R) (take g gs)) (mean_of dim R (get_or gs g [])) f in
+          let x : length (flat_map (mean_of rows.dim R) (take g gs)) ≡ g * rows.dim
+          = flat_length (mean_of rows.dim R) rows.dim (mean_length rows.dim R) (take g gs) ∙ rw (length-take-le g gs (omega arith)) in
+          let l : length (mean_of rows.dim R (get_or gs g [])) ≡ rows.dim = mean_length rows.dim R (get_or gs g []) in
+          let t : flat_map (mean_of rows.dim R) (take (g + 1) gs) ≡ flat_map (mean_of rows.dim R) (take g gs) ++ mean_of rows.dim R (get_or gs g [])
+          = rw (add-one g, take-suc gs g [] (omega arith)) (flat_map_snoc (mean_of rows.dim R) (take g gs) (get_or gs g [])) in
+          let f : length (flat_map (mean_of rows.dim R) (take g gs)) + length (mean_of rows.dim R (get_or gs g [])) ≤ length means₀ = omega (arith, filling_room.1, h.size) in
+          let r = padded_part zero32 (length means₀) (flat_map (mean_of rows.dim R) (take g gs)) (mean_of rows.dim R (get_or gs g [])) f in
           rw (add-sub_cancel_left, e, m, t, h.filled gs o w) (rw (x, l) at r);
     }

@@ -2,7 +2,6 @@
 pub mod Lists
 pub mod Layouts
 pub mod Gathers
-pub mod Rotates
 pub mod Seeks
 pub mod Moves
 pub mod Nearest

@@ -1,20 +1,20 @@
 -- The search for the row closest to a centroid. Assumes nothing.
-use mathlib.Core.Path.{◌≡◌, ◌∙◌}
+use mathlib.Core.Path.{◌≡◌, sym}
 use mathlib.Core.List.{List, [], ◌∷◌}
 use mathlib.Core.Bool.{Bool, true, false, cond}
-use Prim.Native.Nat.{ℕ, suc, ◌+◌, ◌-◌, ◌*◌, ◌/◌, ◌≤◌, ◌<◌}
-use native.Mathlib.Nat.{le_trans, div-mul-le_self}
+use Prim.Native.Nat.{ℕ, suc, ◌+◌, ◌≤◌, ◌<◌}
 use native.Mathlib.Numerals.{add-one}
 use native.Mathlib.Omega.{arith}
-use lib.ListN.{length, get_or, take, drop, drop_of_length-le}
+use lib.ListN.{length, get_or, drop, drop_of_length-le}
 use lib.Seq.{drop-cons}
 use lib.Ieee.{Float, lt}
-use Rattle.sums.specs.Rows.{Row}
+use Rattle.sums.specs.Rows.{Row, row_at}
+use Rattle.sums.specs.Table.{rows_of}
+use Rattle.sums.specs.declared.readings.Rows.{Rows}
 use Rattle.sums.specs.Cells.{Below}
 use Rattle.sums.specs.Sums.{apart_of}
-use Rattle.sums.proofs.Rows.{room, part_row}
+use Rattle.sums.proofs.Rows.{row_at_lem}
 use Rattle.grouping.specs.Balance.{Closest, closest_from, closest_of, toward}
-use Rattle.grouping.specs.PartsInside.{table_of}
 
 -- ---- the place found lies in the part
 from_in : (rows : List Row) (centroid : Row) (n place : ℕ) (part : List ℕ) (best : Closest) → best.place < n → place + length part ≤ n
@@ -40,20 +40,13 @@ closest_in rows centroid (r ∷ part) h =
 pub toward_in : (rows centroids : List Row) (r : ℕ) (part : List ℕ) → 0 < length part → toward rows centroids r part < length part
 toward_in rows centroids r part h = closest_in rows (get_or centroids r []) part h
 
--- ---- the row that a place of the part names, as a stretch of the readings
-module _ (values : Row) (dim : ℕ) (part : List ℕ) (b : Below (length values / dim) part) (i x : ℕ) (p : i < length part) (e : x ≡ get_or part i 0) where
-  pub row_held : x < length values / dim
-  row_held = rw e (b i p)
-
-  pub row_room : x * dim + dim ≤ length values
-  row_room = le_trans (room x (length values / dim) dim row_held) (div-mul-le_self (length values) dim)
-
-  pub row_is : take (x * dim + dim - x * dim) (drop (x * dim) values) ≡ get_or (table_of dim values) (get_or part i 0) []
-  row_is = part_row dim (length values / dim) values x row_held ∙ rw e
+-- ---- the row that a place of the part names
+pub row_named : (rows : Rows) (part : List ℕ) → Below rows.count part → (i x : ℕ) → i < length part → x ≡ get_or part i 0
+    → row_at rows.values.now rows.dim x ≡ get_or (rows_of rows) (get_or part i 0) []
+row_named rows part b i x p e = rw e (sym (row_at_lem rows.dim rows.count rows.values.now (get_or part i 0) [] (b i p)))
 
 -- ---- the turns of the search: i rows are passed, and the best of them is known
 pub record Searching (rows : List Row) (centroid : Row) (part : List ℕ) (best : Float) (place i : ℕ) : Type 0 where
-  pub within : i ≤ length part
   pub inside : place < length part
   pub left : (closest_from rows centroid i (drop i part) (record { place = place; apart = best })).place ≡ closest_of rows centroid part
 
@@ -61,7 +54,7 @@ pub searching_start : (rows : List Row) (centroid : Row) (part : List ℕ) (best
     → best ≡ apart_of (get_or rows (get_or part 0 0) []) centroid → Searching rows centroid part best 0 1
 unfolding closest_of
 searching_start rows centroid [] best h e = absurd (omega arith)
-searching_start rows centroid (r ∷ part) best h e = record { within = omega arith; inside = h; left = rw e }
+searching_start rows centroid (r ∷ part) best h e = record { inside = h; left = rw e }
 
 module _ {rows : List Row} {centroid : Row} {part : List ℕ} {best : Float} {place i : ℕ} (h : Searching rows centroid part best place i) where
   pub searching_end : length part ≤ i → place ≡ closest_of rows centroid part
@@ -75,7 +68,7 @@ module _ {rows : List Row} {centroid : Row} {part : List ℕ} {best : Float} {pl
     step = rw (drop-cons part i 0 p, e)
 
     pub searching_closer : lt apart best ≡ true → Searching rows centroid part apart i (i + 1)
-    searching_closer t = record { within = omega arith; inside = p; left = rw (add-one i) (rw (step, t) at h.left) }
+    searching_closer t = record { inside = p; left = rw (add-one i) (rw (step, t) at h.left) }
 
     pub searching_on : lt apart best ≡ false → Searching rows centroid part best place (i + 1)
-    searching_on t = record { within = omega arith; inside = h.inside; left = rw (add-one i) (rw (step, t) at h.left) }
+    searching_on t = record { inside = h.inside; left = rw (add-one i) (rw (step, t) at h.left) }

@@ -3,20 +3,22 @@ use mathlib.Core.Path.{◌≡◌, refl, sym, ap, ◌∙◌}
 use mathlib.Core.List.{List, []}
 use mathlib.Core.Bool.{true}
 use mathlib.Core.Logic.{◌⊎◌, inl, inr}
-use Prim.Native.Nat.{ℕ, suc, ◌+◌, ◌-◌, ◌*◌, ◌/◌, ◌≤◌, ◌<◌}
-use native.Mathlib.Nat.{le_trans, le-div_iff_mul-le, div-le_self, div-mul-le_self}
+use Prim.Native.Nat.{ℕ, suc, ◌+◌, ◌-◌, ◌/◌, ◌≤◌, ◌<◌}
+use native.Mathlib.Nat.{le-div_iff_mul-le, div-le_self}
 use native.Mathlib.Omega.{arith}
 use lib.Dec.{ltb}
 use borrow.Author.Tests.{lt-ltb, le-ltb, ltb-true}
 use lib.ListN.{length, get_or, set, take, drop}
 use lib.Ieee.{Float, lt}
-use Rattle.sums.specs.Rows.{Row}
+use Rattle.sums.specs.Rows.{Row, row_at}
+use Rattle.sums.specs.Table.{rows_of}
+use Rattle.sums.specs.declared.readings.Rows.{Rows}
 use Rattle.sums.specs.Sums.{zero32, count32}
 use Rattle.sums.specs.Cells.{Below}
-use Rattle.sums.proofs.Rows.{room, part_row}
+use Rattle.sums.proofs.Rows.{row_at_lem}
 use Rattle.grouping.specs.Parts.{sizes_of, flat}
 use Rattle.grouping.specs.Balance.{allowed, seek, moved, giver, taker, round, balanced, moves, closest_of, toward}
-use Rattle.grouping.specs.PartsInside.{table_of, Laid, total}
+use Rattle.grouping.specs.PartsInside.{Laid, total}
 use Rattle.grouping.proofs.Lists.{cond_same, below_same}
 use Rattle.grouping.proofs.Layouts.{sizes_length, sizes_at, sizes_total, start_le, part_at, cut, cut_flat, cut_sizes}
 use Rattle.grouping.proofs.Allowances.{plain, allowance, share_allowed, over_test}
@@ -42,21 +44,15 @@ module _
   moved_below m part' b e = rw e (below_same m (flat (moved g r j ps)) (flat ps) (moved_flat ps g r j hg' hr' ne hj') (rw laid.0 at b))
 
 -- ---- the row found and moved
--- either part's centroid lies inside: which of the two the search has to read, the result alone tells
-pub centroids_held : (g r k dim n : ℕ) → k ≡ n / dim → g < k → r < k → (g * dim + dim ≤ n) × (r * dim + dim ≤ n)
-centroids_held g r k dim n e p q =
-    let w : k * dim ≤ n = rw e (div-mul-le_self n dim) in
-    (le_trans (room g k dim p) w, le_trans (room r k dim q) w)
-
 module _
-    (dim : ℕ) (values centroids : Row) (part sizes part' sizes' : List ℕ) (g r from end j : ℕ) (hg : g < length sizes) (hr : r < length sizes) (ne : r ≡ g → ⊥)
+    (rows centroids : Rows) (part sizes part' sizes' : List ℕ) (g r from end j : ℕ) (hg : g < length sizes) (hr : r < length sizes) (ne : r ≡ g → ⊥)
     (hj : j < get_or sizes g 0) (goes : (ps : List (List ℕ)) → Laid ps part sizes → Laid (moved g r j ps) part' sizes') where
-  pub given_row : length sizes ≡ length centroids / dim → from ≡ total (drop (g + 1) sizes) → end ≡ from + get_or sizes g 0
-      → j ≡ closest_of (table_of dim values) (take (r * dim + dim - r * dim) (drop (r * dim) centroids)) (take (end - from) (drop from part))
-      → (ps : List (List ℕ)) → Laid ps part sizes → Laid (moved g r (toward (table_of dim values) (table_of dim centroids) r (get_or ps g [])) ps) part' sizes'
+  pub given_row : length sizes ≡ centroids.count → from ≡ total (drop (g + 1) sizes) → end ≡ from + get_or sizes g 0
+      → j ≡ closest_of (rows_of rows) (row_at centroids.values.now centroids.dim r) (take (end - from) (drop from part))
+      → (ps : List (List ℕ)) → Laid ps part sizes → Laid (moved g r (toward (rows_of rows) (rows_of centroids) r (get_or ps g [])) ps) part' sizes'
   given_row k f e found ps laid =
-      let t : j ≡ toward (table_of dim values) (table_of dim centroids) r (get_or ps g [])
-      = found ∙ rw (part_row dim (length centroids / dim) centroids r (rw (← k) hr), part_at part sizes ps laid.0 laid.1 g from end hg f e) in
+      let t : j ≡ toward (rows_of rows) (rows_of centroids) r (get_or ps g [])
+      = found ∙ rw (row_at_lem centroids.dim centroids.count centroids.values.now r [] (rw (← k) hr), part_at part sizes ps laid.0 laid.1 g from end hg f e) in
       rw (← t) (goes ps laid)
 
   pub given_below : total sizes ≡ length part → (m : ℕ) → Below m part → Below m part'

@@ -1,45 +1,42 @@
 -- One split, on lists: k-means, the rows gathered and balanced put together. Assumes nothing.
-use mathlib.Core.Path.{◌≡◌, sym, ap, ◌∙◌}
-use mathlib.Core.Bool.{Bool, true, false}
-use mathlib.Core.List.{List, []}
+use mathlib.Core.Path.{◌≡◌, refl, sym, ap, ◌∙◌}
+use mathlib.Core.Bool.{Bool}
+use mathlib.Core.List.{List, [], ◌++◌}
 use Prim.Native.Nat.{ℕ, ◌+◌, ◌*◌, ◌≤◌, ◌<◌}
 use native.Mathlib.Omega.{arith}
-use lib.Ieee.{Float, lt}
-use lib.ListN.{length, get_or, length-map}
+use lib.Ieee.{Float}
+use lib.ListN.{length, take, drop, get_or, length-map}
 use Rattle.sums.specs.Rows.{Row, rows_at}
-use Rattle.sums.specs.Sums.{zero32}
 use Rattle.sums.specs.Cells.{Below}
+use Rattle.sums.proofs.Fronts.{Front, front, lent_front}
 use Rattle.sums.proofs.Passes.{cursor_own}
-use Rattle.sums.specs.declared.draws.Cursor.{Cursor}
+use Rattle.std.specs.Prelude.{Result as Outcome, Ok}
+use Rattle.sums.specs.Draws.{Drawn}
+use Rattle.sums.specs.declared.cursor.Draws.{Draws}
+use Rattle.sums.specs.declared.refusals.Refusal.{Refusal}
+use Rattle.sums.specs.Refused.{number_in}
 use Rattle.labels.specs.declared.mode.Mode.{Mode}
 use Rattle.labels.specs.Mode.{unplaced_refusal}
 use Rattle.kmeans.specs.declared.config.KMeansConfig.{KMeansConfig}
-use Rattle.kmeans.specs.declared.restart.Kept.{Kept}
-use Rattle.kmeans.specs.Inside.{Limits}
-use Rattle.kmeans.specs.KMeans.{Result, for_grouping}
-use Rattle.kmeans.proofs.Restarts.{Ran}
+use Rattle.kmeans.specs.declared.call.Outcome.{Outcome as Kept}
+use Rattle.kmeans.specs.Inside.{Limits, held_of}
+use Rattle.kmeans.specs.KMeans.{Result, kmeans, for_grouping}
 use Rattle.kmeans.proofs.Promises.{labels_below, unplaced_most}
 use Rattle.grouping.specs.Parts.{gathered, flat}
 use Rattle.grouping.specs.Balance.{share}
 use Rattle.grouping.specs.Groups.{Rule, rule_of, balance_if, parts_of, made_by, lost_by}
 use Rattle.grouping.specs.PartsInside.{Laid}
 use Rattle.grouping.specs.Inside.{Split}
-use Rattle.grouping.proofs.Rounds.{Balanced}
 use Rattle.grouping.proofs.Lists.{below_same}
 use Rattle.grouping.proofs.Gathers.{gathered_length}
 use Rattle.grouping.proofs.BalancePromises.{gathered_same}
 
--- ---- balancing where the weight is above zero
-module _ (rows centroids : List Row) (share : ℕ) (weight : Float) (ps : List (List ℕ)) {part sizes : List ℕ} where
-  pub balanced_above : {n : ℕ} → lt zero32 weight ≡ true → Balanced rows centroids share weight ps part sizes n → Laid (balance_if rows centroids share weight ps) part sizes
-  unfolding balance_if
-  balanced_above e b = rw e b.0
-
-  pub balanced_not : lt zero32 weight ≡ false → Laid ps part sizes → Laid (balance_if rows centroids share weight ps) part sizes
-  unfolding balance_if
-  balanced_not e l = rw e l
-
 -- ---- the labels that k-means gives
+
+-- k-means was run, from one state of the draws to the next
+abbrev pub Ran : KMeansConfig → ℕ → ℕ → List Row → Draws → Draws → Kept → List ℕ → List Row → Type 0
+Ran config k dim rows old new r labels centroids =
+    Drawn old new (held_of labels centroids r) (λ n. (kmeans old.list.now n config k dim rows).result) (λ n. (kmeans old.list.now n config k dim rows).made)
 
 -- each row of the group has a label, one of k, and so the rows gathered are the group's
 pub record Labelled (rows k : ℕ) (group labels : List ℕ) : Type 0 where
@@ -56,18 +53,31 @@ labelled_by rows k group labels inside e b = record {
   whole = gathered_length k group labels e b;
 }
 
-pub labelled : {draws : List ℕ} {k : ℕ} (config : KMeansConfig) (dim : ℕ) {cursor : Cursor} {kept : Kept} {labels : List ℕ} {centroids : List Row} (rows : ℕ) (table : List Row) (group : List ℕ)
-    → cursor.at < length draws → cursor.pass < 4294967296 → 0 < k → k ≤ length group → Below rows group → Ran draws config k dim (rows_at table group) cursor kept labels centroids
+pub labelled : {k : ℕ} (config : KMeansConfig) (dim : ℕ) {old new : Draws} (kept : Kept) {labels : List ℕ} {centroids : List Row} (rows : ℕ) (table : List Row) (group : List ℕ)
+    → old.cursor.at < length old.list.now → old.cursor.pass < 4294967296 → 0 < k → k ≤ length group → Below rows group → Ran config k dim (rows_at table group) old new kept labels centroids
     → Labelled rows k group labels
-labelled {draws} {k} config dim {cursor} {kept} {labels} rows table group inside bits some enough below ran =
+labelled {k} config dim {old} {new} kept {labels} rows table group inside bits some enough below ran =
     let l = length-map group (λ i. get_or table i []) in
-    let n = cursor.at + cursor.pass * length draws in
-    let e = ap (λ (r : Result). r.labels) (ran.steps n (cursor_own draws cursor inside bits)).0 in
+    let draws = old.list.now in
+    let n = old.cursor.at + old.cursor.pass * length draws in
+    let e = ap (λ (r : Result). r.labels) (ran.steps n (cursor_own draws old.cursor inside bits)).0 in
     let found : (length labels ≡ length group) × Below k labels
     = rw e (rw l at (labels_below draws n config k dim (rows_at table group) some (rw l enough))) in
     labelled_by rows k group labels below (sym found.0) found.1
 
 -- ---- the split
+
+-- a front of a room that was lent is what came back
+pub came_back : {A : Type 0} (n m : ℕ) (room xs : List A) → m ≡ length room → n ≤ m → length xs ≡ length (take n room) → Front n (xs ++ drop n room) xs
+came_back n m room xs e h l = front refl (l ∙ lent_front n m room e h) (drop n room)
+
+-- the rows are gathered from a copy of the group and by labels that came back
+pub gather_space : {rows k : ℕ} {group labels copied lent : List ℕ} → copied ≡ group → lent ≡ labels → Labelled rows k group labels → length group ≤ 4096
+    → (length copied ≡ length lent) × ((length group ≡ length copied) × ((length copied < 65536) × Below k lent))
+gather_space p l f few = rw (p, l) (f.each, (refl, (omega (arith, few), f.among)))
+
+pub gathered_laid : (k : ℕ) {group labels copied lent part sizes : List ℕ} → copied ≡ group → lent ≡ labels → Laid (gathered k copied lent) part sizes → Laid (gathered k group labels) part sizes
+gathered_laid k p l h = rw (p, l) at h
 
 -- A split leaves no more rows unplaced than the group has.
 pub lost_few : (rule : Rule) (n : ℕ) (group : List ℕ) → lost_by rule n group ≤ length group
@@ -83,22 +93,24 @@ pub split_space : {dim k rows n labels gathered centroids training : ℕ} (confi
     × ((gathered ≡ labels * dim) × ((centroids ≡ k * dim) × (training ≡ labels * dim)))
 split_space config l few enough e g c t spherical f = rw (e, f) (((l.0, (l.1.0, few)), (enough, (omega arith, omega arith))), (g, (c, t)))
 
-pub split_done : {draws : List ℕ} {k : ℕ} (mode : Mode) (dim : ℕ) {group labels : List ℕ} {cursor : Cursor} {kept : Kept} {centroids : List Row} (table : List Row) (weight : Float) (spherical : Bool) {part sizes : List ℕ} (number : ℕ)
-    → cursor.at < length draws → cursor.pass < 4294967296 → length group ≤ 4096
-    → Ran draws (for_grouping spherical) k dim (rows_at table group) cursor kept labels centroids
-    → number ≡ unplaced_refusal mode kept.unplaced
-    → (number ≡ 0 → Laid (balance_if table centroids (share (length group) k) weight (gathered k group labels)) part sizes)
-    → Split mode (rule_of draws dim table k weight spherical) group cursor (record { number = number; cursor = kept.cursor; unplaced = kept.unplaced }) part sizes
+-- what a split gives by k-means and by the test of the rows that it left unplaced
+pub split_done : {k : ℕ} (mode : Mode) (dim : ℕ) {group labels : List ℕ} {old new : Draws} (kept : Kept) {centroids : List Row} (table : List Row) (weight : Float) (spherical : Bool) {part sizes : List ℕ} (r : Outcome ℕ Refusal)
+    → old.cursor.at < length old.list.now → old.cursor.pass < 4294967296 → length group ≤ 4096
+    → Ran (for_grouping spherical) k dim (rows_at table group) old new kept labels centroids
+    → number_in r ≡ unplaced_refusal mode kept.unplaced
+    → ((unplaced : ℕ) → r ≡ Ok unplaced → (unplaced ≡ kept.unplaced) × Laid (balance_if table centroids (share (length group) k) weight (gathered k group labels)) part sizes)
+    → Split mode (rule_of old.list.now dim table k weight spherical) group old new r part sizes
 unfolding parts_of made_by lost_by
-split_done {draws} {k} mode dim {group} {cursor = cursor} {kept = kept} table weight spherical number inside bits few ran refused b =
+split_done {k} mode dim {group} {old = old} kept table weight spherical r inside bits few ran refused b =
+    let draws = old.list.now in
     let rule = rule_of draws dim table k weight spherical in
-    let n = cursor.at + cursor.pass * length draws in
-    let lost : kept.unplaced ≡ lost_by rule n group = ap (λ (r : Result). r.unplaced) (ran.steps n (cursor_own draws cursor inside bits)).0 in
+    let n = old.cursor.at + old.cursor.pass * length draws in
+    let lost : kept.unplaced ≡ lost_by rule n group = ap (λ (r : Result). r.unplaced) (ran.steps n (cursor_own draws old.cursor inside bits)).0 in
     record {
-      inside = ran.inside;
-      few = omega (arith, lost, lost_few rule n group);
+      kept = ran.kept;
+      few = λ u e. omega (arith, (b u e).0, lost, lost_few rule n group);
       steps = λ n p.
           let w = ran.steps n p in
           let u : kept.unplaced ≡ lost_by rule n group = ap (λ (r : Result). r.unplaced) w.0 in
-          ((refused ∙ ap (unplaced_refusal mode) u, λ e. rw (← ap (λ (r : Result). r.labels) w.0, ← ap (λ (r : Result). r.centroids) w.0) (b e)), (w.1, u));
+          ((refused ∙ ap (unplaced_refusal mode) u, w.1), λ x e. ((b x e).0 ∙ u, rw (← ap (λ (r : Result). r.labels) w.0, ← ap (λ (r : Result). r.centroids) w.0) (b x e).1));
     }

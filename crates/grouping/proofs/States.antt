@@ -4,10 +4,7 @@ use mathlib.Core.Logic.{inl, inr}
 use mathlib.Core.Bool.{Bool, true, false}
 use mathlib.Core.List.{List, [], ◌∷◌, ◌++◌, flatten, append_assoc, append-nil}
 use Prim.Native.Nat.{ℕ, zero, suc, ◌+◌, ◌-◌, ◌*◌, ◌≤◌, ◌<◌, min}
-use Rattle.sums.proofs.Passes.{start_inside}
 use native.Mathlib.Omega.{arith}
-use mir.Syntax.{w32}
-use mir.Val.{Fits}
 use borrow.Rule.Slice.PartMut.{put_mid, mid_of, same_len_mid}
 use borrow.Author.Tests.{eqb-true, eqb-false, ltb-true, ltb-false}
 use lib.Dec.{eqb, ltb}
@@ -15,11 +12,17 @@ use lib.Ieee.{Float}
 use lib.ListN.{length, take, drop, set, get_or, replicate, length-append}
 use lib.Seq.{take_at, get_or_at, take-take, get_or-take, take-suc-set}
 use Rattle.sums.specs.Tables.{up_to}
-use Rattle.sums.specs.Rows.{Row, rows_from}
+use Rattle.sums.specs.Rows.{Row}
+use Rattle.sums.specs.Table.{rows_of}
+use Rattle.sums.specs.declared.readings.Rows.{Rows}
 use Rattle.sums.specs.Cells.{Below}
 use Rattle.sums.specs.Draws.{cursor_at}
 use Rattle.sums.specs.Refusals.{Answer, accepted, refused, on_accepted, padded, blank_cell}
-use Rattle.sums.specs.declared.draws.Cursor.{Cursor}
+use Rattle.std.specs.Prelude.{Result, Ok, Err}
+use Rattle.sums.specs.declared.cursor.Draws.{Draws}
+use Rattle.sums.specs.declared.refusals.Refusal.{Refusal}
+use Rattle.sums.specs.Refused.{number_of, told, number_in}
+use Rattle.sums.proofs.Told.{number_some}
 use Rattle.sums.proofs.Fronts.{mid_at, put_at}
 use Rattle.sums.proofs.Rows.{rows_length}
 use Rattle.sums.proofs.Picks.{below_up}
@@ -33,14 +36,12 @@ use Rattle.labels.proofs.Modes.{strict_nine, none_or_strict}
 use Rattle.grouping.specs.Parts.{flat, sizes_of}
 use Rattle.grouping.specs.Groups.{Rule, rule_of, Groups, parts_of, made_by, lost_by, waits, pushed, after, group_from, grouping, ends_from}
 use Rattle.grouping.specs.PartsInside.{Laid, total}
-use Rattle.grouping.specs.Inside.{Room, Split, Taken, pushes, Grouped}
+use Rattle.grouping.specs.Inside.{Split, Taken, pushes, Grouped}
 use Rattle.grouping.proofs.Lists.{below_same}
 use Rattle.grouping.proofs.Layouts.{sizes_total}
 use Rattle.grouping.proofs.SplitPromises.{parts_kept}
-use Rattle.grouping.specs.declared.split.Divided.{Divided}
-use Rattle.grouping.specs.declared.waiting.GroupingAnswer.{GroupingAnswer}
-use Rattle.grouping.specs.declared.waiting.GroupingAnswer.TheVariants.{Accepted, Refused}
-use Rattle.grouping.specs.Answers.{figures, told}
+use Rattle.grouping.specs.declared.waiting.Counts.{Counts}
+use Rattle.grouping.specs.Answers.{counted, figures}
 use Rattle.grouping.proofs.Stretches.{flatten_snoc, ends_length, ends_snoc}
 use Rattle.grouping.proofs.Steps.{Full, full_pushed, full_count, flatten_pushed, group_end, group_list, group_six, group_seven, group_nine, group_split, sofar_none, sofar_list, sofar_more, sofar_end}
 
@@ -221,32 +222,23 @@ module _
       )
       go (g ∷ gs) s = absurd (omega (arith, s.tall))
 
--- every slice is as long as it was
-pub record Kept (order₀ order ends₀ ends sizes₀ sizes waiting₀ waiting : List ℕ) (gathered₀ gathered training₀ training : List Float) : Type 0 where
-  pub order_kept : length order ≡ length order₀
-  pub ends_kept : length ends ≡ length ends₀
-  pub sizes_kept : length sizes ≡ length sizes₀
-  pub waiting_kept : length waiting ≡ length waiting₀
-  pub gathered_kept : length gathered ≡ length gathered₀
-  pub training_kept : length training ≡ length training₀
-
--- the same room, the slices measured again
-pub room_kept : {dim k rows values gathered training : ℕ} (k' rows' gathered' training' : ℕ) → k' ≡ k → rows' ≡ rows → gathered' ≡ gathered → training' ≡ training
-    → Room dim k rows values gathered training → Room dim k' rows' values gathered' training'
-room_kept k' rows' gathered' training' a b c d r = rw (a, b, c, d) r
+-- the same split, its draws and parts counted otherwise
+pub taken_by : {mode : Mode} {dim : ℕ} {rows : List Row} {weight : Float} {spherical : Bool} {budget splits : ℕ} {group : List ℕ} {old new : Draws} {r : Result ℕ Refusal} {part sizes : List ℕ} {list : List ℕ} {k : ℕ} (list' : List ℕ) (k' : ℕ)
+    → list ≡ list' → k ≡ k' → Taken mode (rule_of list dim rows k weight spherical) budget splits group old new r part sizes → Taken mode (rule_of list' dim rows k' weight spherical) budget splits group old new r part sizes
+taken_by list' k' e f t = rw (e, f) at t
 
 -- ---- what is told and left, where the answer is known
 abbrev Leaves : ℕ → List ℕ → List ℕ → Groups → Type 0
 Leaves n order ends g = (order ≡ flatten g.groups) × ((ends ≡ padded blank_cell n (ends_from 0 g.groups)) × (Below n order × (length g.groups ≤ n)))
 
-module _ {answer : Answer Groups} {n : ℕ} {r : GroupingAnswer} {order ends : List ℕ} where
-  grouped_accepted : (g : Groups) → answer ≡ accepted g → told r ≡ on_accepted figures (accepted g) → Leaves n order ends g → Grouped answer n r order ends
+module _ {answer : Answer Groups} {n : ℕ} {r : Result Counts Refusal} {order ends : List ℕ} where
+  grouped_accepted : (g : Groups) → answer ≡ accepted g → told counted r ≡ on_accepted figures (accepted g) → Leaves n order ends g → Grouped answer n r order ends
   grouped_accepted g e t l = record {
     result = t ∙ ap (on_accepted figures) (sym e);
     listed = λ h f. let z : g ≡ h = cc in subst (λ (x : Groups). Leaves n order ends x) z l;
   }
 
-  grouped_refused : (number : ℕ) → answer ≡ refused number → told r ≡ refused number → Grouped answer n r order ends
+  grouped_refused : (number : ℕ) → answer ≡ refused number → told counted r ≡ refused number → Grouped answer n r order ends
   unfolding on_accepted
   grouped_refused number e t = record { result = t ∙ rw e; listed = λ g f. let z : ◌≡◌ {A = ℕ} 0 1 = cc in absurd (omega arith) }
 
@@ -254,14 +246,14 @@ not_spent : (splits budget : ℕ) → splits ≤ budget → (splits ≡ budget �
 not_spent splits budget h k = omega arith
 
 -- ---- what the loop keeps
-pub record Clustering (mode : Mode) (rule : Rule) (limit budget rows : ℕ) (order waiting ends : List ℕ) (top groups splits unplaced start : ℕ) (cursor : Cursor) : Type 0 where
+pub record Clustering (mode : Mode) (rule : Rule) (limit budget rows : ℕ) (order waiting ends : List ℕ) (top groups splits unplaced start : ℕ) (draws : Draws) : Type 0 where
   pub room : groups + top ≤ rows
   pub spent : splits ≤ budget
   pub count : unplaced ≤ splits * 4096
-  pub inside : cursor.at < length rule.draws
   pub below : Below rows order
   pub made : ℕ
-  pub drawn : cursor ≡ cursor_at rule.draws made
+  pub lent : draws.list.now ≡ rule.draws
+  pub drawn : draws.cursor ≡ cursor_at rule.draws made
   pub listed : List (List ℕ)
   pub w : List (List ℕ)
   pub state : State mode (parts_of rule) (made_by rule) (lost_by rule) limit rule.branching budget (grouping mode rule limit budget) rows listed w order waiting ends top groups splits unplaced start made
@@ -274,8 +266,8 @@ pub record Open (mode : Mode) (rule : Rule) (limit budget rows : ℕ) (order wai
   pub st : State mode (parts_of rule) (made_by rule) (lost_by rule) limit rule.branching budget (grouping mode rule limit budget) rows listed (g ∷ gs) order waiting ends top groups splits unplaced start made
 
 module _
-    {mode : Mode} {rule : Rule} {limit budget rows : ℕ} {order waiting ends : List ℕ} {top groups splits unplaced start : ℕ} {cursor : Cursor}
-    (h : Clustering mode rule limit budget rows order waiting ends top groups splits unplaced start cursor) where
+    {mode : Mode} {rule : Rule} {limit budget rows : ℕ} {order waiting ends : List ℕ} {top groups splits unplaced start : ℕ} {draws : Draws}
+    (h : Clustering mode rule limit budget rows order waiting ends top groups splits unplaced start draws) where
   pub open_up : 0 < top → Open mode rule limit budget rows order waiting ends top groups splits unplaced start h.made
   open_up p = go h.w h.state
     where
@@ -285,7 +277,7 @@ module _
       go (g ∷ gs) s = record { listed = h.listed; g = g; gs = gs; st = s }
 
   -- all groups are listed
-  pub clustering_end : top ≤ 0 → Grouped (grouping mode rule limit budget) rows (Accepted groups splits unplaced) order ends
+  pub clustering_end : top ≤ 0 → Grouped (grouping mode rule limit budget) rows (Ok (record { groups = groups; splits = splits; unplaced = unplaced })) order ends
   unfolding on_accepted
   clustering_end p =
       let a = all_listed h.state p in
@@ -298,7 +290,7 @@ module _
     pub end_room : (start < end) × (end ≤ rows)
     end_room = let o = open_up p in (omega (arith, end_top, top_full o.st), omega (arith, end_top, top_in o.st))
 
-    pub clustering_list : end - start ≤ limit → Clustering mode rule limit budget rows order waiting (set ends groups end) (top - 1) (groups + 1) splits unplaced end cursor
+    pub clustering_list : end - start ≤ limit → Clustering mode rule limit budget rows order waiting (set ends groups end) (top - 1) (groups + 1) splits unplaced end draws
     clustering_list f =
         let o = open_up p in
         let e = end_top in
@@ -306,9 +298,9 @@ module _
           room = omega (arith, h.room);
           spent = h.spent;
           count = h.count;
-          inside = h.inside;
           below = h.below;
           made = h.made;
+          lent = h.lent;
           drawn = h.drawn;
           listed = o.listed ++ (o.g ∷ []);
           w = o.gs;
@@ -329,32 +321,38 @@ module _
     top_group : State mode (parts_of rule) (made_by rule) (lost_by rule) limit rule.branching budget (grouping mode rule limit budget) rows (open_up p).listed (group ∷ (open_up p).gs) order waiting ends top groups splits unplaced start h.made
     top_group = rw group_is (open_up p).st
 
-    module _ {cut : Divided} {last sizes : List ℕ} (t : Taken mode rule budget splits group cursor cut last sizes) where
+    module _ {new : Draws} {cut : Result ℕ Refusal} {last sizes : List ℕ} (t : Taken mode rule budget splits group draws new cut last sizes) where
       -- a group that was taken is refused by its number
-      pub clustering_refused : limit < end - start → (cut.number ≡ 0 → ⊥) → (order' : List ℕ) → Grouped (grouping mode rule limit budget) rows (Refused cut.number) order' ends
-      clustering_refused f some order' = grouped_refused cut.number (by_size (ltb (length group) rule.branching) refl) refl
+      pub clustering_refused : limit < end - start → (refusal : Refusal) → cut ≡ Err refusal → (order' : List ℕ) → Grouped (grouping mode rule limit budget) rows (Err refusal) order' ends
+      clustering_refused f refusal is order' = grouped_refused (number_of refusal) (by_size (ltb (length group) rule.branching) refl) refl
         where
-          by_rows : rule.branching ≤ length group → (splits ≡ budget → ⊥) → grouping mode rule limit budget ≡ refused cut.number
+          numbered : number_of refusal ≡ number_in cut
+          numbered = rw is
+
+          by_rows : rule.branching ≤ length group → (splits ≡ budget → ⊥) → grouping mode rule limit budget ≡ refused (number_of refusal)
           by_rows k b =
-              let d : cut.number ≡ unplaced_refusal mode (lost_by rule h.made group) = ((t.tried k b).steps h.made h.drawn).0.0 in
+              let d : number_of refusal ≡ unplaced_refusal mode (lost_by rule h.made group) = numbered ∙ ((t.tried k b).steps h.made h.drawn).0.0 in
               elim (none_or_strict mode (lost_by rule h.made group)) [
-                | inl z ↦ absurd (some (d ∙ z))
+                | inl z ↦ absurd (omega (arith, d ∙ z, number_some refusal))
                 | inr z ↦ refuse_nine top_group (not_spent splits budget h.spent b) (omega (arith, group_end_is)) k z.0 z.1 ∙ ap (λ (n : ℕ). refused n) (sym (d ∙ rw z.0 ((strict_nine (lost_by rule h.made group)).1 z.1)))
               ]
 
-          by_budget : rule.branching ≤ length group → (b : Bool) → eqb splits budget ≡ b → grouping mode rule limit budget ≡ refused cut.number
+          by_budget : rule.branching ≤ length group → (b : Bool) → eqb splits budget ≡ b → grouping mode rule limit budget ≡ refused (number_of refusal)
           by_budget k true e =
               let b = eqb-true splits budget e in
-              refuse_seven top_group b (omega (arith, group_end_is)) k ∙ ap (λ (n : ℕ). refused n) (sym (t.spent k b))
+              refuse_seven top_group b (omega (arith, group_end_is)) k ∙ ap (λ (n : ℕ). refused n) (sym (numbered ∙ t.spent k b))
           by_budget k false e = by_rows k (eqb-false splits budget e)
 
-          by_size : (b : Bool) → ltb (length group) rule.branching ≡ b → grouping mode rule limit budget ≡ refused cut.number
+          by_size : (b : Bool) → ltb (length group) rule.branching ≡ b → grouping mode rule limit budget ≡ refused (number_of refusal)
           by_size true e =
               let k = ltb-true (length group) rule.branching e in
-              refuse_six top_group (omega (arith, group_end_is)) k ∙ ap (λ (n : ℕ). refused n) (sym (t.small k))
+              refuse_six top_group (omega (arith, group_end_is)) k ∙ ap (λ (n : ℕ). refused n) (sym (numbered ∙ t.small k))
           by_size false e = by_budget (ltb-false (length group) rule.branching e) (eqb splits budget) refl
 
-      module _ (none : cut.number ≡ 0) (same : length last ≡ length group) where
+      module _ (lost : ℕ) (is : cut ≡ Ok lost) (same : length last ≡ length group) where
+        none : number_in cut ≡ 0
+        none = rw is
+
         enough : rule.branching ≤ length group
         enough = go (ltb (length group) rule.branching) refl
           where
@@ -369,7 +367,7 @@ module _
         unspent = not_spent splits budget h.spent some_left
 
         -- one that no number refuses is split
-        pub divided : Split mode rule group cursor cut last sizes
+        pub divided : Split mode rule group draws new cut last sizes
         divided = t.tried enough some_left
 
         -- the parts that the split made
@@ -377,7 +375,7 @@ module _
         made-parts = parts_of rule h.made group
 
         made_laid : Laid made-parts last sizes
-        made_laid = (divided.steps h.made h.drawn).0.1 none
+        made_laid = ((divided.steps h.made h.drawn).1 lost is).1
 
         sized : total sizes ≡ length last
         sized = sizes_total made-parts last sizes made_laid.0 made_laid.1
@@ -389,25 +387,25 @@ module _
 
         pub clustering_split : 0 < rule.branching → rows ≤ 4096 → limit < end - start → (waiting' : List ℕ) (r : ℕ)
             → r ≡ top - 1 + length (pushes end sizes) → take r waiting' ≡ take (top - 1) waiting ++ pushes end sizes
-            → Clustering mode rule limit budget rows (put_mid start (end - start) order last) waiting' ends r groups (splits + 1) (unplaced + cut.unplaced) start cut.cursor
+            → Clustering mode rule limit budget rows (put_mid start (end - start) order last) waiting' ends r groups (splits + 1) (unplaced + lost) start new
         clustering_split some few f waiting' r u v =
             let d = divided.steps h.made h.drawn in
             let placed = sym d.0.0 ∙ none in
-            let t = cut_up top_group end group_end_is (omega (arith, group_end_is)) enough unspent placed last sizes waiting' r cut.unplaced same made_laid.0 made_laid.1 d.1.1 u v in
+            let t = cut_up top_group end group_end_is (omega (arith, group_end_is)) enough unspent placed last sizes waiting' r lost same made_laid.0 made_laid.1 (d.1 lost is).0 u v in
             let z = same_len_mid {X = ℕ} start (end - start) order last same in
             let inside : Below rows group = below_take rows (end - start) (drop start order) (below_drop rows start order h.below) in
             let kept = (parts_kept rule h.made group some enough (omega (arith, group_end_is, top_in top_group))).0 in
             record {
               room = omega (arith, state_room t);
               spent = omega (arith, unspent);
-              count = omega (arith, h.count, divided.few);
-              inside = divided.inside;
+              count = omega (arith, h.count, divided.few lost is);
               below =
                   below_append rows (take start order) (last ++ drop (end - start) (drop start order)) (below_take rows start order h.below)
                   (below_append rows last (drop (end - start) (drop start order)) (rw made_laid.0 (below_same rows (flat made-parts) group kept inside))
                   (below_drop rows (end - start) (drop start order) (below_drop rows start order h.below)));
               made = made_by rule h.made group;
-              drawn = d.1.0;
+              lent = divided.kept ∙ h.lent;
+              drawn = d.0.1;
               listed = (open_up p).listed;
               w = pushed made-parts (open_up p).gs;
               state = t;
@@ -433,27 +431,27 @@ first (x ∷ l) waiting room =
       full = (omega arith, tt);
     }
 
-module _ (mode : Mode) (draws : List ℕ) (dim : ℕ) (values : Row) (k : ℕ) (weight : Float) (spherical : Bool) (limit budget : ℕ) (order : List ℕ) (up : order ≡ up_to (length order)) where
+module _ (mode : Mode) (draws : List ℕ) (rows : Rows) (k : ℕ) (weight : Float) (spherical : Bool) (limit budget : ℕ) (order : List ℕ) (many : rows.count ≡ length order) (up : order ≡ up_to (length order)) where
   abbrev ruled : Rule
-  ruled = rule_of draws dim (rows_from dim (length order) values) k weight spherical
+  ruled = rule_of draws rows.dim (rows_of rows) k weight spherical
 
   whole_is : group_from mode (parts_of ruled) (made_by ruled) (lost_by ruled) limit k budget 0 (waits order []) ≡ grouping mode ruled limit budget
-  whole_is = ap (λ (l : List ℕ). group_from mode (parts_of ruled) (made_by ruled) (lost_by ruled) limit k budget 0 (waits l [])) (up ∙ ap up_to (sym (rows_length dim (length order) values)))
+  whole_is = ap (λ (l : List ℕ). group_from mode (parts_of ruled) (made_by ruled) (lost_by ruled) limit k budget 0 (waits l [])) (up ∙ ap up_to (sym (rows_length rows.dim rows.count rows.values.now ∙ many)))
 
-  pub clustering_start : (waiting ends : List ℕ) (top : ℕ) (cursor : Cursor) → 0 < length waiting → length ends ≡ length order → ends ≡ replicate (length ends) blank_cell
-      → 0 < length draws → top ≡ min (length order) 1 → cursor ≡ cursor_at draws 0
-      → Clustering mode ruled limit budget (length order) order (set waiting 0 (length order)) ends top 0 0 0 0 cursor
+  pub clustering_start : (waiting ends : List ℕ) (top : ℕ) (drawn : Draws) → 0 < length waiting → length ends ≡ length order → ends ≡ replicate (length ends) blank_cell
+      → top ≡ min (length order) 1 → drawn.list.now ≡ draws → drawn.cursor ≡ cursor_at draws 0
+      → Clustering mode ruled limit budget (length order) order (set waiting 0 (length order)) ends top 0 0 0 0 drawn
   unfolding flatten ends_from
-  clustering_start waiting ends top cursor room l blank d t c =
+  clustering_start waiting ends top drawn room l blank t list c =
       let b : budget - 0 ≡ budget = omega arith in
       let f = first order waiting room in
       record {
         room = omega (arith, t);
         spent = omega arith;
         count = omega arith;
-        inside = start_inside draws cursor c d;
         below = subst (λ (m : List ℕ). Below (length order) m) (sym up) (below_up (length order));
         made = 0;
+        lent = list;
         drawn = c;
         listed = [];
         w = waits order [];
@@ -470,13 +468,6 @@ module _ (mode : Mode) (draws : List ℕ) (dim : ℕ) (values : Row) (k : ℕ) (
         };
       }
 
--- ---- numbers of a turn
-pub one_more : (splits budget : ℕ) → splits ≤ budget → budget < 65536 → Fits w32 (splits + 1)
-one_more splits budget h k = omega arith
-
--- splits leave at most 4,096 rows unplaced each
-pub count_fits : (unplaced u splits budget : ℕ) → unplaced ≤ splits * 4096 → u ≤ 4096 → splits ≤ budget → budget < 65536 → Fits w32 (unplaced + u)
-count_fits unplaced u splits budget h k s b = omega arith
-
+-- ---- the measure of a turn
 pub falls : (budget splits top r x rows : ℕ) → splits < budget → r ≡ x → x ≤ rows → rows ≤ 4096 → (budget - (splits + 1)) * 65536 + r < (budget - splits) * 65536 + top
 falls budget splits top r x rows h e k f = omega arith

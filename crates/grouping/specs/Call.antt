@@ -1,12 +1,14 @@
 -- Grouping on what a caller lends (01, 'Ranges and refusal numbers'). Lengths stand for the lent slices.
-use Rattle.std.specs.Prelude.{◌≡◌, Bool, true, ◌&&◌, ℕ, ◌*◌, length, Float}
+use Rattle.std.specs.Prelude.{◌≡◌, Bool, true, ◌&&◌, ℕ, ◌*◌, length, Float, Result}
 use mathlib.Core.List.{List, [], ◌∷◌, flat_map, flatten}
 use Rattle.sums.specs.Rows.{Row, rows_from}
 use Rattle.sums.specs.Sums.{zero32}
 use Rattle.sums.specs.Refusals.{Answer, within, same_all, lowest, unless, on_accepted, cells_of, blank_cell}
 use Rattle.grouping.specs.declared.config.GroupingConfig.{GroupingConfig}
-use Rattle.grouping.specs.declared.waiting.GroupingAnswer.{GroupingAnswer}
-use Rattle.grouping.specs.Answers.{told, figures}
+use Rattle.sums.specs.Refused.{told}
+use Rattle.sums.specs.declared.refusals.Refusal.{Refusal}
+use Rattle.grouping.specs.declared.waiting.Counts.{Counts}
+use Rattle.grouping.specs.Answers.{counted, figures}
 use Rattle.grouping.specs.Groups.{rule_of, Groups, grouping, ends_from, mean_of}
 
 unfoldable pub ranges_fit : ℕ → ℕ → GroupingConfig → Bool
@@ -29,8 +31,8 @@ grouping_call rows dim config draws values lent =
     (grouping config.mode (rule_of draws dim (rows_from dim rows values) config.branching config.weight config.spherical) config.limit config.budget)
 
 -- a call's whole result: the answer, the row order, the group ends and the means
-pub record Gives (answer : Answer Groups) (dim : ℕ) (rows : List Row) (order_room end_room mean_room : ℕ) (r : GroupingAnswer) (order ends : List ℕ) (means : List Float) : Type 0 where
-  pub result : told r ≡ on_accepted figures answer
+pub record Gives (answer : Answer Groups) (dim : ℕ) (rows : List Row) (order_room end_room mean_room : ℕ) (r : Result Counts Refusal) (order ends : List ℕ) (means : List Float) : Type 0 where
+  pub result : told counted r ≡ on_accepted figures answer
   pub ordered : order ≡ cells_of blank_cell order_room (λ (g : Groups). flatten g.groups) answer
   pub ended : ends ≡ cells_of blank_cell end_room (λ (g : Groups). ends_from 0 g.groups) answer
   pub meant : means ≡ cells_of zero32 mean_room (λ (g : Groups). flat_map (mean_of dim rows) g.groups) answer

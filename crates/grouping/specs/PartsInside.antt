@@ -1,12 +1,8 @@
 -- What the functions inside say of their slices.
-use Rattle.std.specs.Prelude.{◌≡◌, cond, List, [], ◌∷◌, ◌++◌, ℕ, ◌+◌, ◌-◌, ◌/◌, ◌≤◌, ltb, length, take, drop, Float}
-use Rattle.sums.specs.Rows.{Row, rows_from}
+use Rattle.std.specs.Prelude.{◌≡◌, cond, List, [], ◌∷◌, ◌++◌, ℕ, ◌+◌, ◌-◌, ◌≤◌, ltb, length, take, drop}
 use Rattle.sums.specs.Cells.{Below}
+use Rattle.sums.specs.declared.readings.Rows.{Rows}
 use Rattle.grouping.specs.Parts.{sizes_of, flat}
-
--- readings, or centroids, as rows of dim: as many as there are whole ones
-abbrev pub table_of : ℕ → List Float → List Row
-table_of dim values = rows_from dim (length values / dim) values
 
 -- a stretch holds the parts, and the sizes are theirs
 abbrev pub Laid : List (List ℕ) → List ℕ → List ℕ → Type 0
@@ -30,6 +26,6 @@ total [] = 0
 total (n ∷ ns) = n + total ns
 
 -- what balancing is lent: rows of a table, in parts that make up their stretch, and a centroid for each part
-abbrev pub Parted : ℕ → List Float → List Float → List ℕ → List ℕ → Type 0
-Parted dim values centroids part sizes =
-    record { below : Below (length values / dim) part; centred : length sizes ≡ length centroids / dim; whole : total sizes ≡ length part; few : length part ≤ 4096 }
+abbrev pub Parted : Rows → Rows → List ℕ → List ℕ → Type 0
+Parted rows centroids part sizes =
+    record { below : Below rows.count part; centred : length sizes ≡ centroids.count; alike : centroids.dim ≡ rows.dim; whole : total sizes ≡ length part; few : length part ≤ 4096 }

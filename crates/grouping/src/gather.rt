@@ -4,8 +4,6 @@ ghost use Rattle.sums.specs.Cells.{Below};
 ghost use Rattle.grouping.specs.Parts.{having, gathered};
 ghost use Rattle.grouping.specs.PartsInside.{Laid};
 
-use sums::cells;
-
 // The rows whose label is `c`, in their order, to the front of `dst`; how many.
 fn rows_with_label(dst: &mut [u16], rows: &[u16], labels: &[u16], c: usize) -> usize
     requires { (length rows.now ≡ length labels.now) × (length (having c rows.now labels.now) ≤ length dst.old) }
@@ -13,13 +11,11 @@ fn rows_with_label(dst: &mut [u16], rows: &[u16], labels: &[u16], c: usize) -> u
         (result ≡ length found) × (dst.new ≡ found ++ drop result dst.old) }
 {
     let mut n = 0usize;
-    let mut i = 0usize;
-    while i < rows.len() {
-        if cells::wide(labels[i]) == c {
-            dst[n] = rows[i];
+    for (i, &row) in rows.iter().enumerate() {
+        if usize::from(labels[i]) == c {
+            dst[n] = row;
             n += 1;
         }
-        i += 1;
     }
     n
 }
@@ -31,10 +27,8 @@ pub fn gather(part: &mut [u16], rows: &[u16], labels: &[u16], sizes: &mut [u16])
     ensures { Laid (gathered (length sizes.old) rows.now labels.now)
         part.new sizes.new }
 {
-    let mut c = sizes.len();
     let mut at = 0usize;
-    while 0 < c {
-        c -= 1;
+    for c in (0..sizes.len()).rev() {
         let n = rows_with_label(&mut part[at..], rows, labels, c);
         sizes[c] = n as u16;
         at += n;

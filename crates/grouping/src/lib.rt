@@ -1,6 +1,6 @@
 // Grouping (the source's clustering.rs), in the order of 01: rows gathered per label, parts balanced, one split, the waiting groups, the
-// means, the call. The number of rows is the length of the row order, the number of parts that of the sizes, and `dim` is a number. Where
-// only a stretch of the row order is lent, readings and centroids are as many rows of `dim` values as they hold.
+// means, the call. Readings and centroids are `Rows`, of which the readings are as many as the row order, or more where only a stretch of it
+// is lent; the number of parts is the length of the sizes.
 #![tactic(auto)]
 
 pub mod balance;

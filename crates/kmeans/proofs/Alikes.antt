@@ -2,7 +2,7 @@
 use Prim.Native.Nat.{ℕ, zero, suc, ◌+◌, ◌-◌, ◌*◌, ◌%◌, ◌≤◌, ◌<◌, suc-le-suc}
 use mathlib.Core.Path.{◌≡◌, refl, sym, ap, ◌∙◌}
 use mathlib.Core.List.{List, [], ◌∷◌, map}
-use native.Mathlib.Nat.{mod-lt, not-suc-le-zero, suc-ne-zero}
+use native.Mathlib.Nat.{zero-mul, mod-lt, not-suc-le-zero, suc-ne-zero}
 use native.Mathlib.Omega.{arith}
 use native.Mathlib.Numerals.{add-one}
 use lib.Dec.{T}
@@ -10,15 +10,19 @@ use lib.Ieee.{Float, Format, nan, fits, of_bits, to_bits}
 use lib.Ieee.Bits.{of_bits-to_bits}
 use lib.ListN.{length, get_or, set, take, drop, replicate, length-drop, length-map, length-replicate, length-set, get_or-replicate}
 use lib.Seq.{get_or-set_same, set-get_or, set-set, take_all, take-suc}
-use Rattle.sums.specs.Rows.{Row, rows_from}
+use Rattle.sums.specs.Rows.{Row, rows_from, row_at}
+use Rattle.sums.specs.Table.{rows_of}
+use Rattle.sums.specs.declared.readings.Rows.{Rows}
 use Rattle.sums.specs.Sums.{add_row, zero_row}
-use Rattle.sums.specs.declared.draws.Cursor.{Cursor}
-use Rattle.sums.specs.Draws.{drawn, Drawn}
+use Rattle.sums.specs.declared.cursor.Draws.{Draws}
+use Rattle.sums.specs.Draws.{drawn}
+use Rattle.sums.specs.Draws.{Drawn}
 use Rattle.sums.specs.Cells.{Below}
 use Rattle.sums.proofs.Rows.{rows_length}
 use Rattle.sums.proofs.Fronts.{drop_take, part_of_front}
 use Rattle.sums.proofs.Belows.{below_take}
-use Rattle.labels.specs.declared.nearest.Placement.{Placement}
+use Rattle.std.specs.Prelude.{Option}
+use Rattle.labels.specs.declared.nearest.Nearest.{Nearest}
 use Rattle.labels.specs.Label.{nearest, nearests, label_in, labels_of, distances_of}
 use Rattle.labels.specs.Inside.{norms_of}
 use Rattle.labels.specs.Pool.{pool}
@@ -64,9 +68,16 @@ pub one_row : {A : Type 0} (row : List A) → rows_from (length row) 1 row ≡ r
 unfolding rows_from
 one_row row = rw (take_all (length row) row (omega arith))
 
-pub label_one : (centroids : List Row) (row : Row) (labels : List ℕ) → labels ≡ labels_of (nearests centroids (rows_from (length row) 1 row)) → get_or labels 0 0 ≡ label_in (nearest centroids row)
+pub one_of : (rows : Rows) → rows.count ≡ 1 → rows_of rows ≡ rows.values.now ∷ []
+unfolding rows_from
+one_of rows e =
+    let l : length rows.values.now ≤ rows.dim = omega (arith, rw e at rows.whole) in
+    rw e (ap (λ (r : Row). r ∷ []) (take_all rows.dim rows.values.now l))
+
+pub label_one : (centroids : List Row) (rows : Rows) (labels : List ℕ) → rows.count ≡ 1 → labels ≡ labels_of (nearests centroids (rows_of rows))
+    → get_or labels 0 0 ≡ label_in (nearest centroids rows.values.now)
 unfolding nearests
-label_one centroids row labels e = rw (e, one_row row)
+label_one centroids rows labels o e = rw (e, one_of rows o)
 
 pub label_below_one : (dim k : ℕ) (centroids : List Float) (row : Row) → 0 < k → label_in (nearest (rows_from dim k centroids) row) < k
 unfolding nearests
@@ -88,10 +99,9 @@ pub below_zeros : (m n : ℕ) → 0 < m → Below m (replicate n 0)
 below_zeros m n h i l = rw (get_or-replicate {A = ℕ} n i 0 0 (rw (length-replicate {A = ℕ} n 0) at l)) h
 
 -- where every label is the first cluster's, its sum is that of all the rows
-pub sum_one : (dim n : ℕ) (training : List Float) (labels : List ℕ) (sum : Row) → labels ≡ replicate n 0 → length sum ≡ dim
-    → rows_from dim 1 sum ≡ sums_from (zero_row dim ∷ []) labels (rows_from dim (length labels) training) → sums_from (zero_row dim ∷ []) (replicate n 0) (rows_from dim n training) ≡ sum ∷ []
-sum_one dim n training labels sum e l h =
-    sym (rw (e, length-replicate {A = ℕ} n 0) at h) ∙ rw (← l) (one_row sum)
+pub sum_one : (rows : Rows) (labels : List ℕ) (sum : Row) → labels ≡ replicate rows.count 0 → length sum ≡ rows.dim
+    → rows_from rows.dim 1 sum ≡ sums_from (zero_row rows.dim ∷ []) labels (rows_of rows) → sums_from (zero_row rows.dim ∷ []) (replicate rows.count 0) (rows_of rows) ≡ sum ∷ []
+sum_one rows labels sum e l h = sym (rw e at h) ∙ rw (← l) (one_row sum)
 
 adds : ℕ → Row → Row → Row
 adds zero sum row = sum
@@ -158,7 +168,7 @@ module _ {k dim block count : ℕ} {row sum : Row} {spare : List ℕ} (a : Alike
   alike_update draws centroids n h =
       let c : ℕ = label_in (nearest centroids row) in
       let rows : List Row = replicate count row in
-      let found : List Placement = nearests centroids rows in
+      let found : List (Option Nearest) = nearests centroids rows in
       let counts : List ℕ = set (replicate k 0) c count in
       let sums : List Row = set (replicate k (zero_row dim)) c sum in
       let far : List ℕ = pool block (distances_of found) in
@@ -181,21 +191,21 @@ module _ {k dim block count : ℕ} {row sum : Row} {spare : List ℕ} (a : Alike
       (ap (draws_after n far) counted ∙ (sym (after_cut n k far counts few) ∙ after_alike n (take k far) spare counts held))
 
   -- so the update with that label's counts and sums is the iteration's
-  pub alike_drawn : {draws : List ℕ} {cursor r : Cursor} (centroids : List Row) {rows : List Row} (c : ℕ) {counts : List ℕ} {totals : List Row} → c ≡ label_in (nearest centroids row) → c < k
+  pub alike_drawn : {old new : Draws} (centroids : List Row) {rows : List Row} (c : ℕ) {counts : List ℕ} {totals : List Row} → c ≡ label_in (nearest centroids row) → c < k
       → counts ≡ set (replicate k 0) c count → totals ≡ set (replicate k (zero_row dim)) c sum
-      → Drawn draws cursor r rows (λ n. update_from draws (row ∷ []) n spare counts totals) (λ n. draws_after n spare counts)
-      → Drawn draws cursor r rows (λ n. (update draws k dim block (replicate count row) n (nearests centroids (replicate count row))).centroids)
-      (λ n. (update draws k dim block (replicate count row) n (nearests centroids (replicate count row))).made)
-  alike_drawn {draws} {cursor} {r} centroids {rows} c {counts} {totals} e l p q d = record {
-    inside = d.inside;
+      → Drawn old new rows (λ n. update_from old.list.now (row ∷ []) n spare counts totals) (λ n. draws_after n spare counts)
+      → Drawn old new rows (λ n. (update old.list.now k dim block (replicate count row) n (nearests centroids (replicate count row))).centroids)
+      (λ n. (update old.list.now k dim block (replicate count row) n (nearests centroids (replicate count row))).made)
+  alike_drawn {old} {new} centroids {rows} c {counts} {totals} e l p q d = record {
+    kept = d.kept;
     steps = λ n s.
-        let u = alike_update draws centroids n (rw (← e) l) in
+        let u = alike_update old.list.now centroids n (rw (← e) l) in
         let t = d.steps n s in
         (rw (u, ← e, ← p, ← q) t.0, rw (u, ← e, ← p) t.1);
   }
 
 -- the norm of the first row
-pub norm_first : (dim n : ℕ) (training norms : List Float) → 0 < n → norms ≡ norms_of (rows_from dim n training) → take 1 norms ≡ norms_of (take dim training ∷ [])
+pub norm_first : (dim n : ℕ) (training norms : List Float) → 0 < n → norms ≡ norms_of (rows_from dim n training) → take 1 norms ≡ norms_of (row_at training dim 0 ∷ [])
 unfolding rows_from
 norm_first dim zero training norms h e = absurd (not-suc-le-zero h)
-norm_first dim (suc n) training norms h e = rw e
+norm_first dim (suc n) training norms h e = rw (zero-mul, e)

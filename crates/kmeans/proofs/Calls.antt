@@ -1,25 +1,27 @@
 -- A k-means call: what its tests tell of its numbers, and what each answer gives. Assumes nothing.
-use mathlib.Core.Path.{◌≡◌, refl, sym, ◌∙◌}
+use mathlib.Core.Path.{◌≡◌, sym, ◌∙◌}
 use mathlib.Core.Bool.{true}
 use mathlib.Core.List.{List, [], ◌∷◌}
-use Prim.Native.Nat.{ℕ, zero, suc, ◌*◌, ◌≤◌, ◌<◌}
+use Prim.Native.Nat.{ℕ, ◌*◌, ◌≤◌, ◌<◌}
 use borrow.Author.Tests.{leb-true}
 use lib.Ieee.{Float}
 use lib.ListN.{length, replicate}
-use Rattle.sums.specs.declared.draws.Cursor.{Cursor}
+use Rattle.std.specs.Prelude.{Result, Ok, Err}
+use Rattle.sums.specs.declared.cursor.Draws.{Draws}
+use Rattle.sums.specs.declared.refusals.Refusal.{Refusal}
 use Rattle.sums.specs.Draws.{cursor_at}
 use Rattle.sums.specs.Rows.{rows_from}
 use Rattle.sums.specs.Sums.{zero32}
-use Rattle.sums.specs.Refusals.{unless, on_accepted, cells_of, blank_cell}
+use Rattle.sums.specs.Refusals.{Answer, accepted, refused, unless, on_accepted, cells_of, blank_cell}
+use Rattle.sums.specs.Refused.{number_of, number_in}
+use Rattle.sums.proofs.Told.{unless_refused, unless_passed}
 use Rattle.sums.proofs.Rows.{rows_flat}
 use Rattle.sums.proofs.Refusing.{both, within_is, same_cons, passed, padded_all, padded_none}
 use Rattle.labels.specs.declared.mode.Mode.{Mode}
 use Rattle.labels.specs.Mode.{unplaced_refusal}
 use Rattle.kmeans.specs.declared.config.KMeansConfig.{KMeansConfig}
-use Rattle.kmeans.specs.declared.restart.Kept.{Kept}
-use Rattle.kmeans.specs.declared.call.KMeansAnswer.{KMeansAnswer}
-use Rattle.kmeans.specs.declared.call.KMeansAnswer.TheVariants.{Accepted, Refused}
-use Rattle.kmeans.specs.KMeans.{kmeans}
+use Rattle.kmeans.specs.declared.call.Outcome.{Outcome}
+use Rattle.kmeans.specs.KMeans.{Result as Kept, kmeans}
 use Rattle.kmeans.specs.Inside.{Limits, held_of}
 use Rattle.kmeans.specs.Call.{ranges_fit, lengths_fit, kmeans_refusal, kmeans_call, Gives}
 use Rattle.kmeans.proofs.Restarts.{Ran}
@@ -55,6 +57,16 @@ ranged rows dim k config e =
       some_block = (within_is 1 32768 config.decode_block_size g.1).0;
     }
 
+-- ---- the slices of a call that refusal 2 lets through
+pub lengthed : (rows dim k values labels centroids training : ℕ) → lengths_fit rows dim k values (labels ∷ centroids ∷ training ∷ []) ≡ true
+    → (values ≡ rows * dim) × ((labels ≡ rows) × ((centroids ≡ k * dim) × (training ≡ rows * dim)))
+unfolding lengths_fit
+lengthed rows dim k values labels centroids training e =
+    let v = same_cons _ _ _ _ e in
+    let l = same_cons _ _ _ _ v.1 in
+    let c = same_cons _ _ _ _ l.1 in
+    (v.0, (l.0, (c.0, (same_cons _ _ _ _ c.1).0)))
+
 -- ---- an accepted call has room, rows and draws enough
 pub record Fitting (rows dim k : ℕ) (config : KMeansConfig) (draws values labels centroids training : ℕ) : Type 0 where
   pub labels_are : labels ≡ rows
@@ -64,18 +76,15 @@ pub record Fitting (rows dim k : ℕ) (config : KMeansConfig) (draws values labe
 
 pub fitting : (rows dim k : ℕ) (config : KMeansConfig) (draws values labels centroids training : ℕ)
     → kmeans_refusal rows dim k config draws values (labels ∷ centroids ∷ training ∷ []) ≡ 0 → Fitting rows dim k config draws values labels centroids training
-unfolding kmeans_refusal lengths_fit
+unfolding kmeans_refusal
 fitting rows dim k config draws values labels centroids training e =
     let held = passed 0 _ e in
     let r = ranged rows dim k config held.0 in
-    let v = same_cons _ _ _ _ held.1.0 in
-    let l = same_cons _ _ _ _ v.1 in
-    let c = same_cons _ _ _ _ l.1 in
-    let t = same_cons _ _ _ _ c.1 in
+    let l = lengthed rows dim k values labels centroids training held.1.0 in
     record {
-      labels_are = l.0;
-      limits = rw l.0 (((r.some_dim, r.small_dim), ((r.some, r.few), r.few_rows)), (leb-true k rows held.1.1.0, (r.few_points, r.some_block)));
-      cells = rw l.0 (v.0, (c.0, t.0));
+      labels_are = l.1.0;
+      limits = rw l.1.0 (((r.some_dim, r.small_dim), ((r.some, r.few), r.few_rows)), (leb-true k rows held.1.1.0, (r.few_points, r.some_block)));
+      cells = rw l.1.0 (l.0, l.1.1);
       some_draws = (within_is 1 4096 draws held.1.1.1.0).0;
     }
 
@@ -85,45 +94,52 @@ module _ (mode : Mode) (rows dim k : ℕ) (config : KMeansConfig) (draws : List 
   abbrev lent : List ℕ
   lent = label_cells ∷ centroid_cells ∷ training_cells ∷ []
 
-  -- what the call gives, where its answer is that
-  abbrev Given : KMeansAnswer → List ℕ → List Float → Type 0
-  Given r labels centroids = Gives (kmeans_call mode rows dim k config draws values lent) label_cells centroid_cells r labels centroids
+  abbrev call : Answer Kept
+  call = kmeans_call mode rows dim k config draws values lent
 
-  pub gives_refused : (number : ℕ) (labels : List ℕ) (centroids : List Float) → number ≡ kmeans_refusal rows dim k config (length draws) (length values) lent → (number ≡ 0 → ⊥)
-      → labels ≡ replicate label_cells blank_cell → centroids ≡ replicate centroid_cells zero32 → Given (Refused number) labels centroids
-  unfolding kmeans_call unless on_accepted cells_of
-  gives_refused zero labels centroids e h l c = absurd (h refl)
-  gives_refused (suc number) labels centroids e h l c = record {
-    result = rw (← e);
-    labelled = l ∙ rw (← e) (sym (padded_none blank_cell label_cells));
-    centred = c ∙ rw (← e) (sym (padded_none zero32 centroid_cells));
+  -- what the call gives, where its answer is that
+  abbrev Given : Result Outcome Refusal → List ℕ → List Float → Type 0
+  Given r labels centroids = Gives call label_cells centroid_cells r labels centroids
+
+  -- a refusal, and blank cells
+  given_refused : (r : Refusal) (labels : List ℕ) (centroids : List Float) → call ≡ refused (number_of r) → labels ≡ replicate label_cells blank_cell → centroids ≡ replicate centroid_cells zero32
+      → Given (Err r) labels centroids
+  unfolding on_accepted cells_of
+  given_refused r labels centroids e l c = record {
+    result = rw e;
+    labelled = l ∙ rw e (sym (padded_none blank_cell label_cells));
+    centred = c ∙ rw e (sym (padded_none zero32 centroid_cells));
   }
+
+  pub gives_refused : {B : Type 0} (tested : Result B Refusal) (r : Refusal) (labels : List ℕ) (centroids : List Float) → tested ≡ Err r
+      → number_in tested ≡ kmeans_refusal rows dim k config (length draws) (length values) lent
+      → labels ≡ replicate label_cells blank_cell → centroids ≡ replicate centroid_cells zero32 → Given (Err r) labels centroids
+  unfolding kmeans_call
+  gives_refused tested r labels centroids e h l c = given_refused r labels centroids (unless_refused _ _ tested r e h) l c
 
   -- the run was made: what its slices held then, each as long as it was lent
   module _
-      (cursor : Cursor) (r : Kept) (ran : List ℕ) (means : List Float) (e : kmeans_refusal rows dim k config (length draws) (length values) lent ≡ 0)
-      (s : cursor ≡ cursor_at draws 0) (l : length ran ≡ label_cells) (c : length means ≡ centroid_cells)
-      (g : Ran draws config k dim (rows_from dim label_cells values) cursor r ran (rows_from dim k means)) where
+      (old new : Draws) (r : Outcome) (ran : List ℕ) (means : List Float) (e : kmeans_refusal rows dim k config (length draws) (length values) lent ≡ 0)
+      (same : old.list.now ≡ draws) (s : old.cursor ≡ cursor_at draws 0) (l : length ran ≡ label_cells) (c : length means ≡ centroid_cells)
+      (g : Ran old new config k dim (rows_from dim rows values) r ran (rows_from dim k means)) where
     f : Fitting rows dim k config (length draws) (length values) label_cells centroid_cells training_cells
     f = fitting rows dim k config (length draws) (length values) label_cells centroid_cells training_cells e
 
     held : held_of ran (rows_from dim k means) r ≡ (kmeans draws 0 config k dim (rows_from dim rows values)).result
-    held = rw f.labels_are at (g.steps 0 s).0
+    held = rw same at (g.steps 0 (rw same s)).0
 
-    pub gives_lost : (number : ℕ) (labels : List ℕ) (centroids : List Float) → number ≡ unplaced_refusal mode r.unplaced → (number ≡ 0 → ⊥)
-        → labels ≡ replicate label_cells blank_cell → centroids ≡ replicate centroid_cells zero32 → Given (Refused number) labels centroids
-    unfolding kmeans_call unless on_accepted cells_of
-    gives_lost zero labels centroids u h p q = absurd (h refl)
-    gives_lost (suc number) labels centroids u h p q = record {
-      result = rw (e, ← held, ← u);
-      labelled = p ∙ rw (e, ← held, ← u) (sym (padded_none blank_cell label_cells));
-      centred = q ∙ rw (e, ← held, ← u) (sym (padded_none zero32 centroid_cells));
-    }
+    pub gives_lost : {B : Type 0} (tested : Result B Refusal) (lost : Refusal) (labels : List ℕ) (centroids : List Float) → tested ≡ Err lost
+        → number_in tested ≡ unplaced_refusal mode r.unplaced
+        → labels ≡ replicate label_cells blank_cell → centroids ≡ replicate centroid_cells zero32 → Given (Err lost) labels centroids
+    unfolding kmeans_call unless
+    gives_lost tested lost labels centroids t u p q = given_refused lost labels centroids (rw (e, ← held) (unless_refused _ _ tested lost t u)) p q
 
-    pub gives_run : unplaced_refusal mode r.unplaced ≡ 0 → Given (Accepted r.objective r.restart r.unplaced) ran means
+    pub gives_run : {B : Type 0} (tested : Result B Refusal) (x : B) → tested ≡ Ok x → number_in tested ≡ unplaced_refusal mode r.unplaced → Given (Ok r) ran means
     unfolding kmeans_call unless on_accepted cells_of
-    gives_run u = record {
-      result = rw (e, ← held, u);
-      labelled = rw (e, ← held, u) (sym (padded_all blank_cell label_cells ran l));
-      centred = rw (e, ← held, u, rows_flat dim k means (c ∙ f.cells.1.0)) (sym (padded_all zero32 centroid_cells means c));
-    }
+    gives_run tested x t u =
+        let w : call ≡ accepted (held_of ran (rows_from dim k means) r) = rw (e, ← held) (unless_passed _ _ tested x t u) in
+        record {
+          result = rw w;
+          labelled = rw w (sym (padded_all blank_cell label_cells ran l));
+          centred = rw (w, rows_flat dim k means (c ∙ f.cells.1.0)) (sym (padded_all zero32 centroid_cells means c));
+        }

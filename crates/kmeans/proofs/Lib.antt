@@ -2,7 +2,6 @@
 pub mod Rooms
 pub mod Updates
 pub mod Summing
-pub mod Sorts
 pub mod Selects
 pub mod Turns
 pub mod Sizes

@@ -12,6 +12,10 @@ use Rattle.sums.specs.Rows.{Row, rows_from}
 use Rattle.sums.specs.Sums.{zero32}
 use Rattle.sums.specs.Cells.{Below}
 use Rattle.sums.specs.Refusals.{Answer, accepted, refused, within, unless, on_accepted, cells_of, blank_cell, Cleared}
+use Rattle.std.specs.Prelude.{Result as Returned, Ok}
+use Rattle.sums.specs.declared.refusals.Refusal.{Refusal}
+use Rattle.sums.specs.Refused.{told}
+use Rattle.sums.proofs.Told.{told_same}
 use Rattle.sums.proofs.Rows.{rows_length}
 use Rattle.sums.proofs.Refusing.{padded_all, padded_length, cleared_same}
 use Rattle.sums.proofs.Whens.{fails_exactly, later_exactly, accepted_exactly as accepted_exactly_lem, refused_by}
@@ -20,10 +24,9 @@ use Rattle.labels.specs.declared.mode.Mode.TheVariants.{Strict, OldWay}
 use Rattle.labels.specs.Mode.{unplaced_refusal}
 use Rattle.labels.proofs.Modes.{strict_none, allowed, allowed_nine, allowed_otherwise, allowed_accepted, called_old, called_strict}
 use Rattle.kmeans.specs.declared.config.KMeansConfig.{KMeansConfig}
-use Rattle.kmeans.specs.declared.call.KMeansAnswer.{KMeansAnswer}
-use Rattle.kmeans.specs.declared.call.KMeansAnswer.TheVariants.{Accepted, Refused}
+use Rattle.kmeans.specs.declared.call.Outcome.{Outcome}
 use Rattle.kmeans.specs.KMeans.{Result, kmeans}
-use Rattle.kmeans.specs.Call.{ranges_fit, lengths_fit, kmeans_refusal, kmeans_call, told, Gives}
+use Rattle.kmeans.specs.Call.{ranges_fit, lengths_fit, kmeans_refusal, kmeans_call, figures, Gives}
 use Rattle.kmeans.proofs.Calls.{ranged, fitting}
 use Rattle.kmeans.proofs.Clusters.{kmeans_clustered, kmeans_few, Sphered, kmeans_sphered}
 
@@ -41,20 +44,16 @@ pub unplaced_most : (draws : List ℕ) (n : ℕ) (config : KMeansConfig) (k dim 
 unplaced_most draws n config k dim rows = kmeans_few draws n config k dim rows
 
 -- ---- the answer and every cell follow from the call alone: any two results that a call may give are the same, the work slice too
-told_once : (r r' : KMeansAnswer) → told r ≡ told r' → r ≡ r'
-told_once (Accepted o n u) (Accepted o' n' u') e =
-    let z : ◌≡◌ {A = Float × ℕ × ℕ} (o, n, u) (o', n', u') = cc in
-    rw (ap (λ (f : Float × ℕ × ℕ). f.0) z, ap (λ (f : Float × ℕ × ℕ). f.1) z, ap (λ (f : Float × ℕ × ℕ). f.2) z)
-told_once (Accepted o n u) (Refused number) e = let z : ◌≡◌ {A = ℕ} 0 1 = cc in absurd (omega arith)
-told_once (Refused number) (Accepted o n u) e = let z : ◌≡◌ {A = ℕ} 0 1 = cc in absurd (omega arith)
-told_once (Refused number) (Refused number') e = let z : number ≡ number' = cc in rw z
+figures_apart : (x y : Outcome) → figures x ≡ figures y → x ≡ y
+figures_apart x y e =
+    ap (λ (f : Float × ℕ × ℕ). record { objective = f.0; restart = f.1; unplaced = f.2 }) e
 
-pub one_answer : {answer : Answer Result} {l c : ℕ} {r r' : KMeansAnswer} {labels labels' : List ℕ} {centroids centroids' : List Float}
+pub one_answer : {answer : Answer Result} {l c : ℕ} {r r' : Returned Outcome Refusal} {labels labels' : List ℕ} {centroids centroids' : List Float}
     → Gives answer l c r labels centroids → Gives answer l c r' labels' centroids'
     → (training training' : List Float) → Cleared zero32 training → Cleared zero32 training' → length training ≡ length training'
     → (r ≡ r') × ((labels ≡ labels') × ((centroids ≡ centroids') × (training ≡ training')))
 one_answer {answer} {l} {c} {r} {r'} g g' training training' t t' k =
-    (told_once r r' (g.result ∙ sym g'.result), (g.labelled ∙ sym g'.labelled, (g.centred ∙ sym g'.centred, cleared_same zero32 training training' t t' k)))
+    (told_same figures figures_apart r r' (g.result ∙ sym g'.result), (g.labelled ∙ sym g'.labelled, (g.centred ∙ sym g'.centred, cleared_same zero32 training training' t t' k)))
 
 -- ---- one call, with its settings, its draws, its readings one after the other, and the lengths of what is lent
 module _ (rows dim k : ℕ) (config : KMeansConfig) (draws : List ℕ) (values : List Float) (label_cells centroid_cells training_cells : ℕ) where
@@ -67,25 +66,25 @@ module _ (rows dim k : ℕ) (config : KMeansConfig) (draws : List ℕ) (values :
   abbrev pub answer : Result
   answer = (kmeans draws 0 config k dim (rows_from dim rows values)).result
 
-  -- what a caller reads of a call that is told `Accepted`: a label below k for each row, the values of k centroids, and in the new way no unplaced row
-  pub cells_below : (mode : Mode) (objective : Float) (restart unplaced : ℕ) (labels : List ℕ) (centroids : List Float)
-      → Gives (call mode) label_cells centroid_cells (Accepted objective restart unplaced) labels centroids
-      → (((length labels ≡ rows) × Below k labels) × (length centroids ≡ k * dim)) × (mode ≡ Strict → unplaced ≡ 0)
+  -- what a caller reads of an accepted call: a label below k for each row, the values of k centroids, and in the new way no unplaced row
+  pub cells_below : (mode : Mode) (outcome : Outcome) (labels : List ℕ) (centroids : List Float)
+      → Gives (call mode) label_cells centroid_cells (Ok outcome) labels centroids
+      → (((length labels ≡ rows) × Below k labels) × (length centroids ≡ k * dim)) × (mode ≡ Strict → outcome.unplaced ≡ 0)
   unfolding kmeans_call unless on_accepted cells_of
-  cells_below mode objective restart unplaced labels centroids given =
+  cells_below mode outcome labels centroids given =
       go (kmeans_refusal rows dim k config (length draws) (length values) lent) (unplaced_refusal mode answer.unplaced) refl refl given.result given.labelled given.centred
     where
       go : (number lost : ℕ) → kmeans_refusal rows dim k config (length draws) (length values) lent ≡ number → unplaced_refusal mode answer.unplaced ≡ lost
-          → told (Accepted objective restart unplaced) ≡ on_accepted (λ (a : Result). (a.objective, a.restart, a.unplaced)) (unless number (unless lost (accepted answer)))
+          → told figures (Ok outcome) ≡ on_accepted (λ (a : Result). (a.objective, a.restart, a.unplaced)) (unless number (unless lost (accepted answer)))
           → labels ≡ cells_of blank_cell label_cells (λ (a : Result). a.labels) (unless number (unless lost (accepted answer)))
           → centroids ≡ cells_of zero32 centroid_cells (λ (a : Result). flatten a.centroids) (unless number (unless lost (accepted answer)))
-          → (((length labels ≡ rows) × Below k labels) × (length centroids ≡ k * dim)) × (mode ≡ Strict → unplaced ≡ 0)
+          → (((length labels ≡ rows) × Below k labels) × (length centroids ≡ k * dim)) × (mode ≡ Strict → outcome.unplaced ≡ 0)
       go zero zero e u t p q =
           let f = fitting rows dim k config (length draws) (length values) label_cells centroid_cells training_cells e in
           let sized : length (rows_from dim rows values) ≡ rows = rows_length dim rows values in
           let b = labels_below draws 0 config k dim (rows_from dim rows values) f.limits.0.1.0.0 (omega (arith, sized, f.labels_are, f.limits.1.0)) in
           let is : labels ≡ answer.labels = p ∙ padded_all blank_cell label_cells answer.labels (b.0 ∙ (sized ∙ sym f.labels_are)) in
-          let z : ◌≡◌ {A = Float × ℕ × ℕ} (objective, restart, unplaced) (answer.objective, answer.restart, answer.unplaced) = cc in (
+          let z : ◌≡◌ {A = Float × ℕ × ℕ} (outcome.objective, outcome.restart, outcome.unplaced) (answer.objective, answer.restart, answer.unplaced) = cc in (
             ((ap length is ∙ (b.0 ∙ sized), rw is b.1), ap length q ∙ (padded_length zero32 centroid_cells (flatten answer.centroids) ∙ f.cells.1.0)),
             (λ s. ap (λ (t : Float × ℕ × ℕ). t.2) z ∙ (strict_none answer.unplaced).0 (rw s at u)),
           )

@@ -8,7 +8,8 @@ use lib.ListN.{length, replicate, get_or, set, length-set, length-replicate}
 use Rattle.sums.specs.Rows.{Row}
 use Rattle.sums.specs.Sums.{zero_row, add_row}
 use Rattle.sphere.proofs.Units.{sphered_length}
-use Rattle.labels.specs.declared.nearest.Placement.{Placement}
+use Rattle.std.specs.Prelude.{Option}
+use Rattle.labels.specs.declared.nearest.Nearest.{Nearest}
 use Rattle.labels.specs.Label.{nearests}
 use Rattle.kmeans.specs.Steps.{Fit, counts_from, sums_from, update_from, update, iterate}
 
@@ -32,7 +33,7 @@ from_length draws training n (p ∷ pool) (zero ∷ counts) (s ∷ sums) h = ap 
 from_length draws training n [] (zero ∷ counts) (s ∷ sums) h = ap suc (from_length draws training (suc n) [] counts sums (suc_inj h))
 
 module _ (draws : List ℕ) (k dim block : ℕ) (training : List Row) where
-  update_length : (n : ℕ) (found : List Placement) → length (update draws k dim block training n found).centroids ≡ k
+  update_length : (n : ℕ) (found : List (Option Nearest)) → length (update draws k dim block training n found).centroids ≡ k
   unfolding update
   update_length n found =
       let c = counts_length (replicate k 0) _ ∙ length-replicate k 0 in

@@ -11,9 +11,10 @@ use lib.Ieee.{Float}
 use lib.ListN.{length, get_or, take, drop, replicate, drop_of_length-le}
 use lib.Seq.{drop-cons}
 use native.Mathlib.Numerals.{add-one}
-use Rattle.sums.specs.declared.draws.Cursor.{Cursor}
+use Rattle.sums.specs.declared.cursor.Draws.{Draws}
 use Rattle.sums.specs.Rows.{Row}
-use Rattle.sums.specs.Draws.{cursor_at, Drawn}
+use Rattle.sums.specs.Draws.{cursor_at}
+use Rattle.sums.specs.Draws.{Drawn}
 use Rattle.sums.specs.Cells.{Below}
 use Rattle.sphere.specs.Unit.{sphered}
 use Rattle.labels.specs.Label.{nearests}
@@ -120,9 +121,9 @@ module _ (spherical : Bool) (draws : List ℕ) (k dim block : ℕ) (training : L
   fixed (suc left) fit e = rw e (fixed left fit e)
 
 -- what an update gave, brought to length one where the setting is on: the draws made are the same
-pub handed : {draws : List ℕ} {cursor r : Cursor} {updated rows : List Row} {centroids : ℕ → List Row} {made : ℕ → ℕ} (spherical : Bool) → Drawn draws cursor r updated centroids made
-    → rows ≡ sphered spherical updated → Drawn draws cursor r rows (λ n. sphered spherical (centroids n)) made
-handed spherical d e = record { inside = d.inside; steps = λ n p. let w = d.steps n p in (e ∙ ap (sphered spherical) w.0, w.1) }
+pub handed : {old new : Draws} {updated rows : List Row} {centroids : ℕ → List Row} {made : ℕ → ℕ} (spherical : Bool) → Drawn old new updated centroids made
+    → rows ≡ sphered spherical updated → Drawn old new rows (λ n. sphered spherical (centroids n)) made
+handed spherical d e = record { kept = d.kept; steps = λ n p. let w = d.steps n p in (e ∙ ap (sphered spherical) w.0, w.1) }
 
 -- ---- one iteration: it stops, or it goes on to the update
 
@@ -133,44 +134,44 @@ PoolFor filled distances block cap r at = ((r ≤ length at) × Below (length di
 pub same_fit : (f : Fit) (c : List Row) (n : ℕ) → f.centroids ≡ c → f.made ≡ n → f ≡ record { centroids = c; made = n }
 same_fit f c n p q = rw (← p, ← q)
 
-module _ (draws : List ℕ) (plan : Plan) (training centroids : List Row) (labels₀ labels : List ℕ) (distances : List Float) (tally : Tally) (counts : List ℕ) (totals : List Row)
+module _ (old : Draws) (plan : Plan) (training centroids : List Row) (labels₀ labels : List ℕ) (distances : List Float) (tally : Tally) (counts : List ℕ) (totals : List Row)
     (a : Assigned (nearests centroids training) labels₀ labels distances tally) (s : Summed plan.dim plan.k labels training counts totals) (before : Iterated) (again : Bool) where
   -- the positions at hand serve as the whole pool does: they are its first, or no cluster is empty
   pool_serves : (filled : Bool) (cap r : ℕ) (at : List ℕ) → (filled ≡ true → Filled counts) → PoolFor filled distances plan.block cap r at → length counts ≤ cap → (n : ℕ)
-      → (update_from draws training n (take r at) counts totals ≡ update_from draws training n (pool plan.block distances) counts totals)
+      → (update_from old.list.now training n (take r at) counts totals ≡ update_from old.list.now training n (pool plan.block distances) counts totals)
       × (draws_after n (take r at) counts ≡ draws_after n (pool plan.block distances) counts)
   pool_serves true cap r at f p l n = (
-    filled_update draws training n n (take r at) (pool plan.block distances) counts totals (f refl),
+    filled_update old.list.now training n n (take r at) (pool plan.block distances) counts totals (f refl),
     filled_after n (take r at) counts (f refl) ∙ sym (filled_after n (pool plan.block distances) counts (f refl)),
   )
   pool_serves false cap r at f p l n =
-      rw (p.1 refl) (update_cut draws training n cap (pool plan.block distances) counts totals l, after_cut n cap (pool plan.block distances) counts l)
+      rw (p.1 refl) (update_cut old.list.now training n cap (pool plan.block distances) counts totals l, after_cut n cap (pool plan.block distances) counts l)
 
   module _ (filled : Bool) (used : ℕ) (at₀ at : List ℕ) (f : filled ≡ true → Filled counts) (p : PoolFor filled distances plan.block plan.k used at) (l : length counts ≡ plan.k) where
     -- so the update is by them
-    serves : (n : ℕ) → update draws plan.k plan.dim plan.block training n (nearests centroids training) ≡ refit draws plan.k plan.dim training n (take used at) labels
+    serves : (n : ℕ) → update old.list.now plan.k plan.dim plan.block training n (nearests centroids training) ≡ refit old.list.now plan.k plan.dim training n (take used at) labels
     unfolding update
     serves n =
         let v = pool_serves filled plan.k used at f p (omega arith) n in
-        let u : Fit = update draws plan.k plan.dim plan.block training n (nearests centroids training) in
-        let x : update_from draws training n (take used at) counts totals ≡ u.centroids = v.0 ∙ rw (s.0, s.1, a.labelled, a.measured) in
+        let u : Fit = update old.list.now plan.k plan.dim plan.block training n (nearests centroids training) in
+        let x : update_from old.list.now training n (take used at) counts totals ≡ u.centroids = v.0 ∙ rw (s.0, s.1, a.labelled, a.measured) in
         let y : draws_after n (take used at) counts ≡ u.made = v.1 ∙ rw (s.0, a.labelled, a.measured) in
         same_fit _ _ _ (sym (rw (s.0, s.1) at x)) (sym (rw s.0 at y))
 
     pub iteration_stops : (again ≡ true) × ((tally.same ≡ true) × (repeats counts (take used at) (take before.held at₀) ≡ true))
-        → Iteration draws plan training centroids centroids labels₀ labels at₀ at before (record { settled = true; cursor = before.cursor; held = used }) again
+        → Iteration old old plan training centroids centroids labels₀ labels at₀ at before (record { settled = true; held = used }) again
     iteration_stops h = record {
       labelled = a.labelled;
       held_fits = p.0.0;
       leads = serves;
       goes = λ e. absurd (false≢true (sym e));
       stops = λ e. (h.0, (sym (same_is labels₀ labels (sym a.same ∙ h.1.0)), rw s.0 at h.1.1));
-      stays = λ e. (refl, refl);
+      stays = λ e. (refl, (refl, refl));
     }
 
-    pub iteration_goes : (updated centroids' : List Row) (r : Cursor) → Updated draws training (take used at) counts totals before.cursor r updated
-        → centroids' ≡ sphered plan.spherical updated → Iteration draws plan training centroids centroids' labels₀ labels at₀ at before (record { settled = false; cursor = r; held = used }) again
-    iteration_goes updated centroids' r u h = record {
+    pub iteration_goes : (updated centroids' : List Row) (new : Draws) → Updated old training (take used at) counts totals new updated
+        → centroids' ≡ sphered plan.spherical updated → Iteration old new plan training centroids centroids' labels₀ labels at₀ at before (record { settled = false; held = used }) again
+    iteration_goes updated centroids' new u h = record {
       labelled = a.labelled;
       held_fits = p.0.0;
       leads = serves;
@@ -190,35 +191,36 @@ pub record Lengths (centroids₀ : List Float) (labels₀ : List ℕ) (distances
   pub l_totals : length totals ≡ length totals₀
   pub l_at : length at ≡ length at₀
 
-module _ (draws : List ℕ) (plan : Plan) (training : List Row) where
+module _ (old : Draws) (plan : Plan) (training : List Row) where
   -- the iterations left, and one more, from where the fit stands
   abbrev leading : ℕ → Fit → Fit
-  leading left fit = iterate plan.spherical draws plan.k plan.dim plan.block training left fit
+  leading left fit = iterate plan.spherical old.list.now plan.k plan.dim plan.block training left fit
 
-  abbrev next : ℕ → List Row → Fit
-  next n centroids = on_sphere plan.spherical (update draws plan.k plan.dim plan.block training n (nearests centroids training))
+  abbrev next : List ℕ → ℕ → List Row → Fit
+  next draws n centroids = on_sphere plan.spherical (update draws plan.k plan.dim plan.block training n (nearests centroids training))
 
   -- the centroids are what an iteration with these labels and positions gave
   pub record Prior (centroids : List Row) (labels at : List ℕ) (held : ℕ) : Type 0 where
     pub after : ℕ
-    pub gave : centroids ≡ sphered plan.spherical (refit draws plan.k plan.dim training after (take held at) labels).centroids
+    pub gave : centroids ≡ sphered plan.spherical (refit old.list.now plan.k plan.dim training after (take held at) labels).centroids
 
-  module _ (centroids₀ : List Row) (c₀ : Cursor) where
+  module _ (centroids₀ : List Row) where
     -- i of the iterations are done: those left lead to where all of them lead
-    pub record Onward (n : ℕ) (centroids : List Row) (cursor : Cursor) (i : ℕ) : Type 0 where
+    pub record Onward (n : ℕ) (centroids : List Row) (now : Draws) (i : ℕ) : Type 0 where
       pub made : ℕ
-      pub place : cursor ≡ cursor_at draws made
+      pub place : now.cursor ≡ cursor_at old.list.now made
       pub done : leading (plan.iterations - i) (record { centroids = centroids; made = made }) ≡ leading plan.iterations (record { centroids = centroids₀; made = n })
 
-    pub onward_start : (n : ℕ) → c₀ ≡ cursor_at draws n → Onward n centroids₀ c₀ 0
+    pub onward_start : (n : ℕ) → old.cursor ≡ cursor_at old.list.now n → Onward n centroids₀ old 0
     onward_start n p = let z : plan.iterations - 0 ≡ plan.iterations = omega arith in record { made = n; place = p; done = rw z }
 
-    module _ {n : ℕ} {centroids : List Row} {cursor : Cursor} {i : ℕ} (o : Onward n centroids cursor i) where
-      pub onward_step : {r : Cursor} {rows : List Row} → i < plan.iterations → Drawn draws cursor r rows (λ m. (next m centroids).centroids) (λ m. (next m centroids).made) → Onward n rows r (i + 1)
+    module _ {n : ℕ} {centroids : List Row} {now : Draws} {i : ℕ} (o : Onward n centroids now i) where
+      pub onward_step : {new : Draws} {rows : List Row} → i < plan.iterations → now.list.now ≡ old.list.now
+          → Drawn now new rows (λ m. (next now.list.now m centroids).centroids) (λ m. (next now.list.now m centroids).made) → Onward n rows new (i + 1)
       unfolding iterate
-      onward_step l d =
-          let u : Fit = next o.made centroids in
-          let w = d.steps o.made o.place in
+      onward_step l k d =
+          let u : Fit = next old.list.now o.made centroids in
+          let w = rw k at (d.steps o.made (rw k o.place)) in
           let z : plan.iterations - i ≡ suc (plan.iterations - (i + 1)) = omega arith in
           record {
             made = u.made;
@@ -227,63 +229,61 @@ module _ (draws : List ℕ) (plan : Plan) (training : List Row) where
           }
 
       pub onward_end : plan.iterations ≤ i → let all : Fit = leading plan.iterations (record { centroids = centroids₀; made = n }) in
-          (centroids ≡ all.centroids) × (cursor ≡ cursor_at draws all.made)
+          (centroids ≡ all.centroids) × (now.cursor ≡ cursor_at old.list.now all.made)
       unfolding iterate
       onward_end l =
           let z : plan.iterations - i ≡ 0 = omega arith in
           let x = rw z at o.done in
-          (ap (λ (y : Fit). y.centroids) x, o.place ∙ ap (λ (y : Fit). cursor_at draws y.made) x)
+          (ap (λ (y : Fit). y.centroids) x, o.place ∙ ap (λ (y : Fit). cursor_at old.list.now y.made) x)
 
-    pub record Left (n : ℕ) (centroids : List Row) (labels at : List ℕ) (state : Iterated) (i : ℕ) : Type 0 where
-      pub onward : Onward n centroids state.cursor i
+    pub record Left (n : ℕ) (centroids : List Row) (labels at : List ℕ) (state : Iterated) (now : Draws) (i : ℕ) : Type 0 where
+      pub onward : Onward n centroids now i
       pub prior : 0 < i → Prior centroids labels at state.held
 
-    pub record Running (centroids : List Row) (labels at : List ℕ) (state : Iterated) (i : ℕ) : Type 0 where
-      pub within : i ≤ plan.iterations
-      pub inside : state.cursor.at < length draws
+    pub record Running (centroids : List Row) (labels at : List ℕ) (state : Iterated) (now : Draws) (i : ℕ) : Type 0 where
+      pub kept : now.list.now ≡ old.list.now
       pub fits : state.held ≤ length at
-      pub left : (n : ℕ) → c₀ ≡ cursor_at draws n → Left n centroids labels at state i
+      pub left : (n : ℕ) → old.cursor ≡ cursor_at old.list.now n → Left n centroids labels at state now i
 
-    pub running_start : (labels at : List ℕ) → c₀.at < length draws → Running centroids₀ labels at (record { settled = false; cursor = c₀; held = 0 }) 0
-    running_start labels at h = record {
-      within = omega arith;
-      inside = h;
+    pub running_start : (labels at : List ℕ) → Running centroids₀ labels at (record { settled = false; held = 0 }) old 0
+    running_start labels at = record {
+      kept = refl;
       fits = omega arith;
       left = λ n p. record { onward = onward_start n p; prior = λ l. absurd (not-suc-le-zero l) };
     }
 
-    module _ {centroids : List Row} {labels at : List ℕ} {state : Iterated} {i : ℕ} (h : Running centroids labels at state i) where
-      module _ (centroids' : List Row) (labels' at' : List ℕ) (r : Iterated) (l : i < plan.iterations) (t : Iteration draws plan training centroids centroids' labels labels' at at' state r (ltb 0 i)) where
-        pub running_step : r.settled ≡ false → Running centroids' labels' at' r (i + 1)
+    module _ {centroids : List Row} {labels at : List ℕ} {state : Iterated} {now : Draws} {i : ℕ} (h : Running centroids labels at state now i) where
+      module _ (centroids' : List Row) (labels' at' : List ℕ) (r : Iterated) (new : Draws) (l : i < plan.iterations)
+          (t : Iteration now new plan training centroids centroids' labels labels' at at' state r (ltb 0 i)) where
+        pub running_step : r.settled ≡ false → Running centroids' labels' at' r new (i + 1)
         running_step e =
             let d = t.goes e in
             record {
-              within = omega arith;
-              inside = d.inside;
+              kept = d.kept ∙ h.kept;
               fits = t.held_fits;
               left = λ n p.
                   let o = (h.left n p).onward in
                   record {
-                    onward = onward_step o l (record { inside = d.inside; steps = λ m q. rw (t.leads m) (d.steps m q) });
-                    prior = λ q. record { after = o.made; gave = (d.steps o.made o.place).0 };
+                    onward = onward_step o l h.kept (record { kept = d.kept; steps = λ m q. rw (t.leads m) (d.steps m q) });
+                    prior = λ q. record { after = o.made; gave = (rw h.kept at (d.steps o.made (rw h.kept o.place))).0 };
                   };
             }
 
-        pub running_stop : r.settled ≡ true → Fitted draws plan training centroids₀ c₀ centroids' r.cursor
+        pub running_stop : r.settled ≡ true → Fitted old new plan training centroids₀ centroids'
         running_stop e = record {
-          inside = rw (t.stays e).1 h.inside;
+          kept = (t.stays e).1.0 ∙ h.kept;
           steps = λ n p.
-              let old = (h.left n p).onward in
+              let o = (h.left n p).onward in
               let s = t.stops e in
               let q = (h.left n p).prior (ltb-true 0 i s.0) in
-              let new : List ℕ = take r.held at' in
+              let fresh : List ℕ = take r.held at' in
               let counts : List ℕ = counts_from (replicate plan.k 0) labels' in
-              let g = settles draws training old.made q.after new (take state.held at) counts (sums_from (replicate plan.k (zero_row plan.dim)) labels' training) s.1.1 in
-              let f : next old.made centroids ≡ record { centroids = centroids; made = old.made }
-              = ap (on_sphere plan.spherical) (t.leads old.made) ∙ same_fit _ _ _ (ap (sphered plan.spherical) g ∙ sym (rw (← s.1.0) at q.gave)) (settles_undrawn old.made new (take state.held at) counts s.1.1) in
-              let x = sym (fixed plan.spherical draws plan.k plan.dim plan.block training (plan.iterations - i) (record { centroids = centroids; made = old.made }) f) ∙ old.done in
-              ((t.stays e).0 ∙ ap (λ (y : Fit). y.centroids) x, (t.stays e).1 ∙ (old.place ∙ ap (λ (y : Fit). cursor_at draws y.made) x));
+              let g = settles old.list.now training o.made q.after fresh (take state.held at) counts (sums_from (replicate plan.k (zero_row plan.dim)) labels' training) s.1.1 in
+              let f : next old.list.now o.made centroids ≡ record { centroids = centroids; made = o.made }
+              = ap (on_sphere plan.spherical) (rw h.kept at (t.leads o.made)) ∙ same_fit _ _ _ (ap (sphered plan.spherical) g ∙ sym (rw (← s.1.0) at q.gave)) (settles_undrawn o.made fresh (take state.held at) counts s.1.1) in
+              let x = sym (fixed plan.spherical old.list.now plan.k plan.dim plan.block training (plan.iterations - i) (record { centroids = centroids; made = o.made }) f) ∙ o.done in
+              ((t.stays e).0 ∙ ap (λ (y : Fit). y.centroids) x, (t.stays e).1.1 ∙ (o.place ∙ ap (λ (y : Fit). cursor_at old.list.now y.made) x));
         }
 
-      pub running_end : plan.iterations ≤ i → Fitted draws plan training centroids₀ c₀ centroids state.cursor
-      running_end l = record { inside = h.inside; steps = λ n p. onward_end (h.left n p).onward l }
+      pub running_end : plan.iterations ≤ i → Fitted old now plan training centroids₀ centroids
+      running_end l = record { kept = h.kept; steps = λ n p. onward_end (h.left n p).onward l }

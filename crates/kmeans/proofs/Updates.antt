@@ -10,36 +10,34 @@ use native.Mathlib.Numerals.{add-one}
 use native.Mathlib.Omega.{arith}
 use lib.ListN.{length, get_or, set, take, drop, drop_of_length-le}
 use lib.Seq.{drop-cons, take-suc-set, append_snoc, take_all}
-use Rattle.sums.specs.declared.draws.Cursor.{Cursor}
-use Rattle.sums.specs.declared.draws.Draw.{Draw}
+use Rattle.sums.specs.declared.cursor.Draws.{Draws}
 use Rattle.sums.specs.Rows.{Row}
-use Rattle.sums.specs.Draws.{drawn, cursor_at, Drawn}
-use Rattle.kmeans.specs.declared.update.Refill.{Refill}
+use Rattle.sums.specs.Draws.{drawn, cursor_at}
+use Rattle.sums.specs.Draws.{Drawn}
 use Rattle.kmeans.specs.Steps.{times_inverse, update_from, draws_after}
 
 -- ---- one cluster: its row, the draws made, and how many pool rows are used then
-abbrev pub Turned : List ℕ → List Row → List ℕ → ℕ → Row → Refill → Refill → Row → Type 0
-Turned draws training pool c s state r row =
-    Drawn draws state.cursor r.cursor (row ∷ []) (λ n. update_from draws training n (drop state.used pool) (c ∷ []) (s ∷ [])) (λ n. draws_after n (drop state.used pool) (c ∷ []))
-    × (r.used ≡ cond (eqb c 0 && ltb state.used (length pool)) (state.used + 1) state.used)
+abbrev pub Turned : Draws → Draws → List Row → List ℕ → ℕ → Row → ℕ → ℕ → Row → Type 0
+Turned old new training pool c s used after row =
+    Drawn old new (row ∷ []) (λ n. update_from old.list.now training n (drop used pool) (c ∷ []) (s ∷ [])) (λ n. draws_after n (drop used pool) (c ∷ []))
+    × (after ≡ cond (eqb c 0 && ltb used (length pool)) (used + 1) used)
 
-module _ (draws : List ℕ) (training : List Row) (pool : List ℕ) (s : Row) (state : Refill) (row : Row) where
-  pub turned_scaled : (count : ℕ) → 0 < count → state.cursor.at < length draws → row ≡ times_inverse count s → Turned draws training pool count s state state row
+module _ (old new : Draws) (training : List Row) (pool : List ℕ) (s : Row) (used : ℕ) (row : Row) where
+  pub turned_scaled : (count : ℕ) → 0 < count → row ≡ times_inverse count s → Turned old old training pool count s used used row
   unfolding update_from draws_after
-  turned_scaled zero h i e = absurd (not-suc-le-zero h)
-  turned_scaled (suc c) h i e = (record { inside = i; steps = λ n p. (rw e, p) }, rw (ne_eqb (suc c) 0 (suc-ne-zero c)))
+  turned_scaled zero h e = absurd (not-suc-le-zero h)
+  turned_scaled (suc c) h e = (record { kept = refl; steps = λ n p. (rw e, p) }, rw (ne_eqb (suc c) 0 (suc-ne-zero c)))
 
-  pub turned_pool : state.used < length pool → state.cursor.at < length draws → row ≡ get_or training (get_or pool state.used 0) []
-      → Turned draws training pool 0 s state (record { used = state.used + 1; cursor = state.cursor }) row
+  pub turned_pool : used < length pool → row ≡ get_or training (get_or pool used 0) [] → Turned old old training pool 0 s used (used + 1) row
   unfolding update_from draws_after
-  turned_pool h i e = rw (drop-cons pool state.used 0 h, lt-ltb state.used (length pool) h) (record { inside = i; steps = λ n p. (rw e, p) }, refl)
+  turned_pool h e = rw (drop-cons pool used 0 h, lt-ltb used (length pool) h) (record { kept = refl; steps = λ n p. (rw e, p) }, refl)
 
-  pub turned_drawn : length pool ≤ state.used → (d : Draw) → Drawn draws state.cursor d.next d.number (λ n. drawn draws n) (λ n. suc n) → row ≡ get_or training (d.number % length training) []
-      → Turned draws training pool 0 s state (record { used = state.used; cursor = d.next }) row
+  pub turned_drawn : length pool ≤ used → (x : ℕ) → Drawn old new x (λ n. drawn old.list.now n) (λ n. suc n) → row ≡ get_or training (x % length training) []
+      → Turned old new training pool 0 s used used row
   unfolding update_from draws_after
-  turned_drawn h d t e =
-      rw (drop_of_length-le pool {i = state.used} h, le-ltb state.used (length pool) h)
-      (record { inside = t.inside; steps = λ n p. (rw (e, (t.steps n p).0), (t.steps n p).1) }, refl)
+  turned_drawn h x t e =
+      rw (drop_of_length-le pool {i = used} h, le-ltb used (length pool) h)
+      (record { kept = t.kept; steps = λ n p. (rw (e, (t.steps n p).0), (t.steps n p).1) }, refl)
 
 -- ---- and what is left to the others
 rest : ℕ → List ℕ → List ℕ
@@ -72,58 +70,52 @@ module _ (draws : List ℕ) (training : List Row) (n : ℕ) where
   after_turn (p ∷ pool) zero counts = refl
 
 -- ---- the clusters in turn: those from j on are left
-module _ (draws : List ℕ) (training : List Row) (pool counts : List ℕ) (sums : List Row) where
-  abbrev pub Updated : Cursor → Cursor → List Row → Type 0
-  Updated cursor r rows = Drawn draws cursor r rows (λ n. update_from draws training n pool counts sums) (λ n. draws_after n pool counts)
+module _ (old : Draws) (training : List Row) (pool counts : List ℕ) (sums : List Row) where
+  abbrev pub Updated : Draws → List Row → Type 0
+  Updated new rows = Drawn old new rows (λ n. update_from old.list.now training n pool counts sums) (λ n. draws_after n pool counts)
 
-  pub record Left (n : ℕ) (rows : List Row) (state : Refill) (j : ℕ) : Type 0 where
+  pub record Left (n : ℕ) (rows : List Row) (now : Draws) (used j : ℕ) : Type 0 where
     pub made : ℕ
-    pub place : state.cursor ≡ cursor_at draws made
-    pub done : take j rows ++ update_from draws training made (drop state.used pool) (drop j counts) (drop j sums) ≡ update_from draws training n pool counts sums
-    pub after : draws_after made (drop state.used pool) (drop j counts) ≡ draws_after n pool counts
+    pub place : now.cursor ≡ cursor_at old.list.now made
+    pub done : take j rows ++ update_from old.list.now training made (drop used pool) (drop j counts) (drop j sums) ≡ update_from old.list.now training n pool counts sums
+    pub after : draws_after made (drop used pool) (drop j counts) ≡ draws_after n pool counts
 
-  pub record Updating (c₀ : Cursor) (rows : List Row) (state : Refill) (j : ℕ) : Type 0 where
-    pub within : j ≤ length counts
-    pub inside : state.cursor.at < length draws
-    pub left : (n : ℕ) → c₀ ≡ cursor_at draws n → Left n rows state j
+  pub record Updating (rows : List Row) (now : Draws) (used j : ℕ) : Type 0 where
+    pub kept : now.list.now ≡ old.list.now
+    pub left : (n : ℕ) → old.cursor ≡ cursor_at old.list.now n → Left n rows now used j
 
-  pub updating_start : (c₀ : Cursor) (rows : List Row) → c₀.at < length draws → Updating c₀ rows (record { used = 0; cursor = c₀ }) 0
-  updating_start c₀ rows h = record {
-    within = omega arith;
-    inside = h;
-    left = λ n p. record { made = n; place = p; done = refl; after = refl };
-  }
+  pub updating_start : (rows : List Row) → Updating rows old 0 0
+  updating_start rows = record { kept = refl; left = λ n p. record { made = n; place = p; done = refl; after = refl } }
 
-  module _ {c₀ : Cursor} {rows : List Row} {state : Refill} {j : ℕ} (sized : length sums ≡ length counts) (many : length rows ≡ length counts) (h : Updating c₀ rows state j) where
-    pub updating_step : (r : Refill) (row : Row) → j < length counts → Turned draws training pool (get_or counts j 0) (get_or sums j []) state r row
-        → Updating c₀ (set rows j row) r (j + 1)
-    updating_step r row l t = record {
-      within = omega arith;
-      inside = t.0.inside;
+  module _ {rows : List Row} {now : Draws} {used j : ℕ} (sized : length sums ≡ length counts) (many : length rows ≡ length counts) (h : Updating rows now used j) where
+    pub updating_step : (new : Draws) (after : ℕ) (row : Row) → j < length counts → Turned now new training pool (get_or counts j 0) (get_or sums j []) used after row
+        → Updating (set rows j row) new after (j + 1)
+    updating_step new after row l t = record {
+      kept = t.0.kept ∙ h.kept;
       left = λ n p.
-          let old = h.left n p in
-          let d = t.0.steps old.made old.place in
-          let left = rest_drop (get_or counts j 0) state.used pool ∙ ap (λ (u : ℕ). drop u pool) (sym t.1) in
+          let was = h.left n p in
+          let d = rw h.kept at (t.0.steps was.made (rw h.kept was.place)) in
+          let left = rest_drop (get_or counts j 0) used pool ∙ ap (λ (u : ℕ). drop u pool) (sym t.1) in
           let ls : j < length sums = omega arith in
           let lr : j < length rows = omega arith in
-          let turn = rows_turn draws training old.made (drop state.used pool) (get_or counts j 0) (get_or sums j []) (drop (suc j) counts) (drop (suc j) sums) in
-          let after = after_turn draws training old.made (drop state.used pool) (get_or counts j 0) (drop (suc j) counts) in
+          let turn = rows_turn old.list.now training was.made (drop used pool) (get_or counts j 0) (get_or sums j []) (drop (suc j) counts) (drop (suc j) sums) in
+          let on = after_turn old.list.now training was.made (drop used pool) (get_or counts j 0) (drop (suc j) counts) in
           record {
-            made = draws_after old.made (drop state.used pool) (get_or counts j 0 ∷ []);
+            made = draws_after was.made (drop used pool) (get_or counts j 0 ∷ []);
             place = d.1;
             done = rw (add-one j, take-suc-set rows j row lr, append_snoc (take j rows) row _)
-                (rw (drop-cons counts j 0 l, drop-cons sums j [] ls, turn, ← d.0, left) at old.done);
-            after = rw (add-one j) (rw (drop-cons counts j 0 l, after, left) at old.after);
+                (rw (drop-cons counts j 0 l, drop-cons sums j [] ls, turn, ← d.0, left) at was.done);
+            after = rw (add-one j) (rw (drop-cons counts j 0 l, on, left) at was.after);
           };
     }
 
-    pub updating_end : length counts ≤ j → Updated c₀ state.cursor rows
+    pub updating_end : length counts ≤ j → Updated now rows
     unfolding update_from draws_after
     updating_end l = record {
-      inside = h.inside;
+      kept = h.kept;
       steps = λ n p.
-          let old = h.left n p in
+          let was = h.left n p in
           let z = drop_of_length-le counts {i = j} l in
           let t = take_all j rows (omega arith) in
-          (sym (append-nil rows) ∙ rw (z, t) at old.done, old.place ∙ ap (λ (m : ℕ). cursor_at draws m) (rw z at old.after));
+          (sym (append-nil rows) ∙ rw (z, t) at was.done, was.place ∙ ap (λ (m : ℕ). cursor_at old.list.now m) (rw z at was.after));
     }

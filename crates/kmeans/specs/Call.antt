@@ -1,14 +1,15 @@
 -- K-means on what a caller lends (01, 'Ranges and refusal numbers'). Lengths stand for the lent slices.
-use Rattle.std.specs.Prelude.{◌≡◌, Bool, ◌&&◌, ℕ, ◌*◌, leb, length, Float}
+use Rattle.std.specs.Prelude.{◌≡◌, Bool, ◌&&◌, ℕ, ◌*◌, leb, length, Float, Result as Returned}
 use mathlib.Core.List.{List, [], ◌∷◌, flatten}
 use Rattle.sums.specs.Rows.{rows_from}
 use Rattle.sums.specs.Sums.{zero32}
-use Rattle.sums.specs.Refusals.{Answer, accepted, refused, within, same_all, lowest, unless, on_accepted, cells_of, blank_cell}
+use Rattle.sums.specs.Refusals.{Answer, accepted, within, same_all, lowest, unless, on_accepted, cells_of, blank_cell}
+use Rattle.sums.specs.Refused.{told}
+use Rattle.sums.specs.declared.refusals.Refusal.{Refusal}
 use Rattle.labels.specs.declared.mode.Mode.{Mode}
 use Rattle.labels.specs.Mode.{unplaced_refusal}
 use Rattle.kmeans.specs.declared.config.KMeansConfig.{KMeansConfig}
-use Rattle.kmeans.specs.declared.call.KMeansAnswer.{KMeansAnswer}
-use Rattle.kmeans.specs.declared.call.KMeansAnswer.TheVariants.{Accepted, Refused}
+use Rattle.kmeans.specs.declared.call.Outcome.{Outcome}
 use Rattle.kmeans.specs.KMeans.{Result, kmeans}
 
 -- the lengths of what is lent: the labels and the centroids; then the work slice, in docs/BUFFERS.md's order
@@ -34,13 +35,12 @@ kmeans_call mode rows dim k config draws values lent =
     let kept = (kmeans draws 0 config k dim (rows_from dim rows values)).result in
     unless (kmeans_refusal rows dim k config (length draws) (length values) lent) (unless (unplaced_refusal mode kept.unplaced) (accepted kept))
 
--- each case of the code's enum in 01's terms: the objective, the number of the restart kept and its unplaced rows, or the refusal's number
-abbrev pub told : KMeansAnswer → Answer (Float × ℕ × ℕ)
-told (Accepted objective restart unplaced) = accepted (objective, restart, unplaced)
-told (Refused number) = refused number
+-- what an acceptance tells, in 01's terms: the objective, the number of the restart kept and its unplaced rows
+abbrev pub figures : Outcome → Float × ℕ × ℕ
+figures outcome = (outcome.objective, outcome.restart, outcome.unplaced)
 
 -- a call's whole result: the answer, and both result slices
-pub record Gives (answer : Answer Result) (label_cells centroid_cells : ℕ) (r : KMeansAnswer) (labels : List ℕ) (centroids : List Float) : Type 0 where
-  pub result : told r ≡ on_accepted (λ (a : Result). (a.objective, a.restart, a.unplaced)) answer
+pub record Gives (answer : Answer Result) (label_cells centroid_cells : ℕ) (r : Returned Outcome Refusal) (labels : List ℕ) (centroids : List Float) : Type 0 where
+  pub result : told figures r ≡ on_accepted (λ (a : Result). (a.objective, a.restart, a.unplaced)) answer
   pub labelled : labels ≡ cells_of blank_cell label_cells (λ (a : Result). a.labels) answer
   pub centred : centroids ≡ cells_of zero32 centroid_cells (λ (a : Result). flatten a.centroids) answer

@@ -3,14 +3,16 @@ use Rattle.std.specs.Prelude.{◌≡◌, Bool, true, false, ◌&&◌, List, [], 
 use Rattle.sums.specs.Rows.{Row, rows_from}
 use Rattle.sums.specs.Sums.{zero32, zero_row}
 use Rattle.sums.specs.Cells.{Below}
-use Rattle.sums.specs.declared.draws.Cursor.{Cursor}
+use Rattle.sums.specs.declared.cursor.Draws.{Draws}
+use Rattle.sums.specs.declared.readings.Rows.{Rows}
+use Rattle.sums.specs.Table.{rows_of}
 use Rattle.sums.specs.Draws.{Drawn}
 use Rattle.labels.specs.Inside.{norms_of}
 use Rattle.labels.specs.Label.{nearests, labels_of, unplaced_of}
 use Rattle.labels.specs.Pool.{pool}
 use Rattle.kmeans.specs.declared.config.Plan.{Plan}
 use Rattle.kmeans.specs.declared.lloyd.Iterated.{Iterated}
-use Rattle.kmeans.specs.declared.restart.Kept.{Kept}
+use Rattle.kmeans.specs.declared.call.Outcome.{Outcome}
 use Rattle.kmeans.specs.declared.restart.Scored.{Scored}
 use Rattle.kmeans.specs.Steps.{Fit, counts_from, sums_from, refit, update, on_sphere, iterate, objective_from}
 use Rattle.kmeans.specs.KMeans.{Result, fit_of}
@@ -19,10 +21,7 @@ use Rattle.kmeans.specs.KMeans.{Result, fit_of}
 abbrev pub Limits : ℕ → ℕ → ℕ → Type 0
 Limits dim k rows = ((0 < dim) × (dim ≤ 64)) × (((0 < k) × (k ≤ 64)) × (rows ≤ 4096))
 
--- the training rows, of which there are as many as norms; and the centroids
-abbrev pub training_of : Plan → List Float → List Float → List Row
-training_of plan training norms = rows_from plan.dim (length norms) training
-
+-- the centroids
 abbrev pub centroids_of : Plan → List Float → List Row
 centroids_of plan centroids = rows_from plan.dim plan.k centroids
 
@@ -34,25 +33,26 @@ pub record Planned (plan : Plan) : Type 0 where
   pub few : plan.k ≤ 64
   pub some_block : 0 < plan.block
 
--- what iterations work on: training rows with their norms, and room for the centroids
-pub record Trainable (plan : Plan) (training norms : List Float) (centroids : ℕ) : Type 0 where
+-- what iterations work on: training rows, as long as the plan says, with their norms
+pub record Trainable (plan : Plan) (rows : Rows) (norms : List Float) : Type 0 where
   pub planned : Planned plan
-  pub some_rows : 0 < length norms
-  pub few_rows : length norms ≤ 4096
-  pub training_cells : length training ≡ length norms * plan.dim
-  pub normed : norms ≡ norms_of (training_of plan training norms)
-  pub centroid_cells : centroids ≡ plan.k * plan.dim
+  pub some_rows : 0 < rows.count
+  pub few_rows : rows.count ≤ 4096
+  pub as_planned : rows.dim ≡ plan.dim
+  pub counted : length norms ≡ rows.count
+  pub normed : norms ≡ norms_of (rows_of rows)
 
--- what restarts work on: iterations' work with rows enough for the clusters, and all rows, which are labelled
-pub record Restartable (plan : Plan) (values training norms : List Float) (rows centroids : ℕ) : Type 0 where
-  pub trainable : Trainable plan training norms centroids
-  pub enough : plan.k ≤ length norms
-  pub few_labels : rows ≤ 4096
-  pub value_cells : length values ≡ rows * plan.dim
+-- what restarts ask beyond that: rows enough for the clusters, room for the centroids, and all rows, which are labelled
+pub record Restartable (plan : Plan) (training rows : Rows) (labels centroids : ℕ) : Type 0 where
+  pub centroid_cells : centroids ≡ plan.k * plan.dim
+  pub enough : plan.k ≤ training.count
+  pub few_rows : rows.count ≤ 4096
+  pub as_planned : rows.dim ≡ plan.dim
+  pub labelled : labels ≡ rows.count
 
 -- what empty clusters are filled from: training rows, and some of their positions in the pool
-abbrev pub Sources : List Float → ℕ → ℕ → List ℕ → Type 0
-Sources training dim rows pool = (length training ≡ rows * dim) × (((0 < rows) × (rows ≤ 65536)) × Below rows pool)
+abbrev pub Sources : Rows → List ℕ → Type 0
+Sources training pool = ((0 < training.count) × (training.count ≤ 65536)) × Below training.count pool
 
 -- every empty cluster finds a position in both lists, one after the other, and the same in both: then refills need no draw, and are the same
 unfoldable pub repeats : List ℕ → List ℕ → List ℕ → Bool
@@ -64,21 +64,21 @@ repeats (zero ∷ counts) (p ∷ new) (q ∷ old) = eqb p q && repeats counts ne
 
 -- One iteration (01, 'K-means' step 3), after what the one before told: the update that the labels and the positions at hand lead to was made, at length one where that is on (02 (iv)); or
 -- it stopped, since the labels and the refills are those of the one before.
-pub record Iteration (draws : List ℕ) (plan : Plan) (training centroids₀ centroids : List Row) (labels₀ labels at₀ at : List ℕ) (before r : Iterated) (again : Bool) : Type 0 where
+pub record Iteration (old new : Draws) (plan : Plan) (training centroids₀ centroids : List Row) (labels₀ labels at₀ at : List ℕ) (before r : Iterated) (again : Bool) : Type 0 where
   pub labelled : labels ≡ labels_of (nearests centroids₀ training)
   pub held_fits : r.held ≤ length at
-  pub leads : (n : ℕ) → update draws plan.k plan.dim plan.block training n (nearests centroids₀ training)
-      ≡ refit draws plan.k plan.dim training n (take r.held at) labels
-  pub goes : r.settled ≡ false → let after : ℕ → Fit = λ n. on_sphere plan.spherical (refit draws plan.k plan.dim training n (take r.held at) labels) in
-      Drawn draws before.cursor r.cursor centroids (λ n. (after n).centroids) (λ n. (after n).made)
+  pub leads : (n : ℕ) → update old.list.now plan.k plan.dim plan.block training n (nearests centroids₀ training)
+      ≡ refit old.list.now plan.k plan.dim training n (take r.held at) labels
+  pub goes : r.settled ≡ false → let after : ℕ → Fit = λ n. on_sphere plan.spherical (refit old.list.now plan.k plan.dim training n (take r.held at) labels) in
+      Drawn old new centroids (λ n. (after n).centroids) (λ n. (after n).made)
   pub stops : r.settled ≡ true → (again ≡ true) × ((labels ≡ labels₀) × (repeats (counts_from (replicate plan.k 0) labels) (take r.held at) (take before.held at₀) ≡ true))
-  pub stays : r.settled ≡ true → (centroids ≡ centroids₀) × (r.cursor ≡ before.cursor)
+  pub stays : r.settled ≡ true → (centroids ≡ centroids₀) × ((new.list.now ≡ old.list.now) × (new.cursor ≡ old.cursor))
 
--- all the iterations asked for were made (01, 'K-means' step 3), from these centroids and this cursor: what both are then
-abbrev pub Fitted : List ℕ → Plan → List Row → List Row → Cursor → List Row → Cursor → Type 0
-Fitted draws plan training centroids₀ cursor centroids r =
-    let after : ℕ → Fit = λ n. iterate plan.spherical draws plan.k plan.dim plan.block training plan.iterations (record { centroids = centroids₀; made = n }) in
-    Drawn draws cursor r centroids (λ n. (after n).centroids) (λ n. (after n).made)
+-- all the iterations asked for were made (01, 'K-means' step 3), from these centroids and this state of the draws: what both are then
+abbrev pub Fitted : Draws → Draws → Plan → List Row → List Row → List Row → Type 0
+Fitted old new plan training centroids₀ centroids =
+    let after : ℕ → Fit = λ n. iterate plan.spherical old.list.now plan.k plan.dim plan.block training plan.iterations (record { centroids = centroids₀; made = n }) in
+    Drawn old new centroids (λ n. (after n).centroids) (λ n. (after n).made)
 
 -- one row, its norm and its sum, positions to fill empty clusters from, and room for k clusters
 pub record Alone (row : Row) (norm : List Float) (sum : Row) (spare : List ℕ) (k centroids totals : ℕ) : Type 0 where
@@ -96,9 +96,9 @@ pub record Alike (k dim block count : ℕ) (row sum : Row) (spare : List ℕ) : 
   pub first : Below 1 spare
   pub pooled : (distances : List Float) → length distances ≡ count → length (take k (pool block distances)) ≡ length spare
 
--- a restart was made (01, 'K-means' steps 2 and 3): what the centroids and the cursor are then
-abbrev pub Restarted : List ℕ → Plan → List Row → Cursor → List Row → Cursor → Type 0
-Restarted draws plan training cursor centroids r = Drawn draws cursor r centroids (λ n. (fit_of draws plan training n).centroids) (λ n. (fit_of draws plan training n).made)
+-- a restart was made (01, 'K-means' steps 2 and 3): what the centroids and the draws are then
+abbrev pub Restarted : Draws → Draws → Plan → List Row → List Row → Type 0
+Restarted old new plan training centroids = Drawn old new centroids (λ n. (fit_of old.list.now plan training n).centroids) (λ n. (fit_of old.list.now plan training n).made)
 
 -- all rows labelled by the centroids, their objective (01, 'K-means' step 4), and how many are unplaced
 abbrev pub Finished : List Row → List Row → List ℕ → Scored → Type 0
@@ -107,5 +107,5 @@ Finished rows centroids labels r =
     (labels ≡ labels_of found) × ((r.objective ≡ objective_from zero32 centroids (labels_of found) rows) × (r.unplaced ≡ unplaced_of found))
 
 -- the result that the code holds, as the definitions have it
-abbrev pub held_of : List ℕ → List Row → Kept → Result
+abbrev pub held_of : List ℕ → List Row → Outcome → Result
 held_of labels centroids kept = record { labels = labels; centroids = centroids; objective = kept.objective; restart = kept.restart; unplaced = kept.unplaced }

@@ -8,7 +8,8 @@ use Rattle.sums.specs.Sums.{one32, count32, spread_of, add_row, zero_row}
 use Rattle.sums.specs.Ordering.{ascending}
 use Rattle.sums.specs.Draws.{drawn, pick}
 use Rattle.sphere.specs.Unit.{sphered}
-use Rattle.labels.specs.declared.nearest.Placement.{Placement}
+use Rattle.std.specs.Prelude.{Option}
+use Rattle.labels.specs.declared.nearest.Nearest.{Nearest}
 use Rattle.labels.specs.Label.{nearests, labels_of, distances_of}
 use Rattle.labels.specs.Pool.{pool}
 
@@ -67,7 +68,7 @@ refit draws k dim training n far labels =
     record { centroids = update_from draws training n far counts (sums_from (replicate k (zero_row dim)) labels training); made = draws_after n far counts }
 
 -- the centroids after the labels found; the pool alone knows blocks
-unfoldable pub update : List ℕ → ℕ → ℕ → ℕ → List Row → ℕ → List Placement → Fit
+unfoldable pub update : List ℕ → ℕ → ℕ → ℕ → List Row → ℕ → List (Option Nearest) → Fit
 update draws k dim block training n found = refit draws k dim training n (pool block (distances_of found)) (labels_of found)
 
 -- what an iteration hands on: every centroid of its update, refilled ones too, brought to length one where the setting is on (02 (iv))

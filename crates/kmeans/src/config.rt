@@ -1,6 +1,9 @@
 // The settings of a k-means run, and what its steps know of them.
 ghost use Rattle.std.specs.Prelude.{◌≡◌};
 ghost use Rattle.kmeans.specs.KMeans.{usual, for_grouping as for_grouping_lem};
+ghost use Rattle.kmeans.specs.Inside.{Trainable};
+
+use sums::readings::Rows;
 
 #[derive(Clone, Copy)]
 pub struct KMeansConfig {
@@ -56,4 +59,13 @@ pub struct Plan {
     pub iterations: usize,
     pub block: usize,
     pub spherical: bool,
+}
+
+// What iterations work on: the plan, and the rows that train with the norm of each.
+#[derive(Clone, Copy)]
+pub struct Training<'a> {
+    pub plan: Plan,
+    pub rows: Rows<'a>,
+    pub norms: &'a [f32],
+    ghost trainable: { Trainable plan rows norms.now },
 }

@@ -1,15 +1,14 @@
 // New centroids out of counts and sums, with refills for empty clusters (the source's update_centroids).
 ghost use Rattle.std.specs.Prelude.{◌≡◌, cond, ◌&&◌, [], ◌∷◌, ◌+◌, ◌*◌, ◌≤◌, ◌<◌, eqb, ltb, length, drop};
 ghost use Rattle.sums.specs.Rows.{rows_from};
+ghost use Rattle.sums.specs.Table.{rows_of};
 ghost use Rattle.sums.specs.Draws.{Drawn};
 ghost use Rattle.kmeans.specs.Steps.{times_inverse, update_from, draws_after};
 ghost use Rattle.kmeans.specs.Inside.{Sources};
 
-use crate::training;
-use labels::positions;
-use labels::positions::TrainingPosition;
-use sums::draws::Cursor;
-use sums::numbers;
+use labels::positions::{TrainingPosition, training_place};
+use sums::cursor::Draws;
+use sums::readings::Rows;
 
 // Each sum times the inverse of the count, and not divided by it.
 fn scale(dst: &mut [f32], from: &[f32], count: u16)
@@ -17,103 +16,72 @@ fn scale(dst: &mut [f32], from: &[f32], count: u16)
     ensures { dst.new ≡ times_inverse count from.now }
 {
     let inverse = 1.0f32 / (count as f32);
-    let mut i = 0usize;
-    while i < dst.len() {
-        dst[i] = from[i] * inverse;
-        i += 1;
+    for (i, x) in from.iter().enumerate() {
+        dst[i] = x * inverse;
     }
 }
 
-// What empty clusters are filled from: how many pool rows were used, and the place in the draws.
-#[derive(Clone, Copy)]
-pub struct Refill {
-    pub used: usize,
-    pub cursor: Cursor,
-}
-
-// One cluster's centroid: its sums times the inverse of its count; with no rows, the next pool row, or a drawn one.
+// One cluster's centroid: its sums times the inverse of its count; with no rows, the next pool row, or a drawn one. How many pool rows are
+// used then.
 fn update_cluster(
     dst: &mut [f32],
     from: &[f32],
     count: u16,
-    training: &[f32],
-    dim: usize,
-    rows: usize,
+    training: Rows<'_>,
     pool: &[u16],
-    draws: &[u32],
-    state: Refill,
-) -> Refill
-    requires dst_len { (length dst.old ≡ dim) × (length from.now ≡ dim) }
-    requires sources { Sources training.now dim rows pool.now }
-    requires at_in_bounds { state.cursor.at < length draws.now }
-    ensures fact { let left = drop state.used pool.now in
-        let train = rows_from dim rows training.now in
-        Drawn draws.now state.cursor result.cursor (dst.new ∷ [])
-        (λ n. update_from draws.now train n left (count ∷ []) (from.now ∷ [])) (λ n. draws_after n left (count ∷ [])) }
-    ensures used_value { result.used ≡ cond (eqb count 0 && ltb state.used (length pool.now)) (state.used + 1) state.used }
+    used: usize,
+    draws: &mut Draws<'_>,
+) -> usize
+    requires dst_len { (length dst.old ≡ training.dim) × (length from.now ≡ training.dim) }
+    requires sources { Sources training pool.now }
+    ensures fact { let left = drop used pool.now in
+        Drawn draws.old draws.new (dst.new ∷ [])
+        (λ n. update_from draws.old.list.now (rows_of training.entry) n left (count ∷ []) (from.now ∷ [])) (λ n. draws_after n left (count ∷ [])) }
+    ensures used_value { result ≡ cond (eqb count 0 && ltb used (length pool.now)) (used + 1) used }
 {
     if 0 < count {
         scale(dst, from, count);
-        return state;
+        return used;
     }
-    let used = state.used;
     if used < pool.len() {
-        let place = positions::training_place(TrainingPosition(pool[used]));
-        training::copy_row(dst, training, dim, place);
-        let cursor = state.cursor;
-        return Refill {
-            used: used + 1,
-            cursor,
-        };
+        let place = training_place(TrainingPosition(pool[used]));
+        dst.copy_from_slice(training.row(place));
+        return used + 1;
     }
-    let drawn = state.cursor.draw(draws);
-    let position = numbers::index(drawn.number) % rows;
-    let place = positions::training_place(TrainingPosition(position as u16));
-    training::copy_row(dst, training, dim, place);
-    let cursor = drawn.next;
-    Refill { used, cursor }
+    let number = draws.draw() as usize;
+    let position = number % training.count;
+    let place = training_place(TrainingPosition(position as u16));
+    dst.copy_from_slice(training.row(place));
+    used
 }
 
 // The centroid of every cluster, in ascending order.
 pub fn update_centroids(
     centroids: &mut [f32],
-    from: &[f32],
+    from: Rows<'_>,
     counts: &[u16],
-    training: &[f32],
-    dim: usize,
-    rows: usize,
+    training: Rows<'_>,
     pool: &[u16],
-    draws: &[u32],
-    cursor: Cursor,
-) -> Cursor
-    requires centroids_len { (length centroids.old ≡ length counts.now * dim) × (length from.now ≡ length counts.now * dim) }
-    requires sources { Sources training.now dim rows pool.now }
-    requires at_in_bounds { cursor.at < length draws.now }
-    ensures { let k = length counts.now in
-        let train = rows_from dim rows training.now in
-        Drawn draws.now cursor result (rows_from dim k centroids.new)
-        (λ n. update_from draws.now train n pool.now counts.now (rows_from dim k from.now))
+    draws: &mut Draws<'_>,
+)
+    requires centroids_len { (length centroids.old ≡ length counts.now * training.dim)
+        × ((from.dim ≡ training.dim) × (from.count ≡ length counts.now)) }
+    requires sources { Sources training pool.now }
+    ensures { Drawn draws.old draws.new (rows_from training.entry.dim (length counts.now) centroids.new)
+        (λ n. update_from draws.old.list.now (rows_of training.entry) n pool.now counts.now (rows_of from.entry))
         (λ n. draws_after n pool.now counts.now) }
 {
-    let mut state = Refill { used: 0, cursor };
-    let mut j = 0usize;
-    while j < counts.len() {
-        let at = j * dim;
-        let end = at + dim;
-        let next = update_cluster(
-            &mut centroids[at..end],
-            &from[at..end],
-            counts[j],
+    let mut used = 0usize;
+    for (j, count) in counts.iter().enumerate() {
+        let at = j * training.dim;
+        used = update_cluster(
+            &mut centroids[at..at + training.dim],
+            from.row(j),
+            *count,
             training,
-            dim,
-            rows,
             pool,
+            used,
             draws,
-            state,
         );
-        state = next;
-        j += 1;
     }
-    let last = state.cursor;
-    last
 }

@@ -7,25 +7,29 @@ use native.Mathlib.Numerals.{add-one}
 use native.Mathlib.Omega.{arith}
 use lib.Dec.{eqb}
 use lib.Ieee.{Float, nan}
-use lib.ListN.{length, get_or, take, drop, set, length-set, length-drop}
-use lib.Seq.{drop-set-lt, drop-cons, length-take-le}
+use lib.ListN.{length, get_or, take, drop, set, length-set}
+use lib.Seq.{drop-set-lt, drop-cons}
 use Rattle.sums.specs.Rows.{Row, rows_from, row_at}
 use Rattle.sums.specs.Sums.{norm_of}
+use Rattle.sums.specs.Table.{rows_of}
 use Rattle.sums.specs.Tables.{tabulate}
+use Rattle.sums.specs.declared.readings.Rows.{Rows}
 use Rattle.sums.specs.Refusals.{same_all}
 use Rattle.sums.proofs.Sames.{same_turn, same_none}
 use Rattle.sums.proofs.Tables.{fill_more, fill_done, get_d_tab, length_tab, tab_same, map_tab}
-use Rattle.sums.proofs.Rows.{room, map_rows}
-use Rattle.labels.specs.declared.nearest.Placement.{Placement}
+use Rattle.sums.proofs.Rows.{map_rows}
+use Rattle.std.specs.Prelude.{Option}
+use Rattle.labels.specs.declared.nearest.Nearest.{Nearest}
 use Rattle.labels.specs.declared.nearest.Tally.{Tally}
 use Rattle.labels.specs.Label.{placement, nearest, nearests, label_in, distance_in, labels_of, distances_of, unplaced_of}
 use Rattle.labels.specs.Panels.{panels_of}
 use Rattle.labels.specs.Inside.{norms_of, placed_by, Assigned, Assignable}
+use Rattle.labels.proofs.Columns.{row_long}
 use Rattle.labels.proofs.Searches.{by_panels_lem}
 use Rattle.labels.proofs.Places.{unplaced_append}
 
 -- the first i rows are assigned, whatever answers for a row
-pub record Assigning (found : ℕ → Placement) (labels₀ labels : List ℕ) (distances : List Float) (tally : Tally) (i : ℕ) : Type 0 where
+pub record Assigning (found : ℕ → Option Nearest) (labels₀ labels : List ℕ) (distances : List Float) (tally : Tally) (i : ℕ) : Type 0 where
   pub within : i ≤ length labels₀
   pub labels_sized : length labels ≡ length labels₀
   pub distances_sized : length distances ≡ length labels₀
@@ -36,7 +40,7 @@ pub record Assigning (found : ℕ → Placement) (labels₀ labels : List ℕ) (
   pub counted : tally.unplaced ≡ unplaced_of (tabulate found i)
   pub few : tally.unplaced ≤ i
 
-pub assigning_start : (found : ℕ → Placement) (labels : List ℕ) (distances : List Float) → length distances ≡ length labels
+pub assigning_start : (found : ℕ → Option Nearest) (labels : List ℕ) (distances : List Float) → length distances ≡ length labels
     → Assigning found labels labels distances (record { same = true; unplaced = 0 }) 0
 unfolding unplaced_of
 assigning_start found labels distances e = record {
@@ -57,9 +61,9 @@ read l l₀ i h h₀ e =
     let p : get_or l i 0 ∷ drop (suc i) l ≡ get_or l₀ i 0 ∷ drop (suc i) l₀ = sym (drop-cons l i 0 h) ∙ (e ∙ drop-cons l₀ i 0 h₀) in
     (cc, cc)
 
-module _ {found : ℕ → Placement} {labels₀ labels : List ℕ} {distances : List Float} {tally : Tally} {i : ℕ} (h : Assigning found labels₀ labels distances tally i) where
+module _ {found : ℕ → Option Nearest} {labels₀ labels : List ℕ} {distances : List Float} {tally : Tally} {i : ℕ} (h : Assigning found labels₀ labels distances tally i) where
   -- row i's answer, put to its cells
-  pub assigning_step : {labels' : List ℕ} {distances' : List Float} {tally' : Tally} (n : Placement) → i < length labels₀ → n ≡ found i
+  pub assigning_step : {labels' : List ℕ} {distances' : List Float} {tally' : Tally} (n : Option Nearest) → i < length labels₀ → n ≡ found i
       → labels' ≡ set labels i (label_in n) → distances' ≡ set distances i (distance_in n) → tally'.same ≡ (tally.same && eqb (get_or labels i 0) (label_in n))
       → tally'.unplaced ≡ tally.unplaced + unplaced_of (n ∷ []) → tally'.unplaced ≤ i + 1
       → Assigning found labels₀ labels' distances' tally' (i + 1)
@@ -119,23 +123,23 @@ module _ (centroids : List Row) (dim n : ℕ) (values : List Float) where
 
 -- ---- by panels as by centroids
 
-module _ (dim k : ℕ) (values rownorms centroids : List Float) (n m : ℕ) (a : Assignable dim k values rownorms centroids n m) where
-  -- row i's norm is at hand, and row i is dim long
-  same_nearest : (cells : ℕ) → (k + 15) / 16 * (16 * dim) ≤ cells → (i : ℕ) → i < n
-      → placed_by values rownorms dim (panels_of centroids dim k cells) (norms_of (rows_from dim k centroids)) i ≡ nearest (rows_from dim k centroids) (row_at values dim i)
+module _ (rows centroids : Rows) (rownorms : List Float) (n m : ℕ) (a : Assignable rows centroids rownorms n m) (cells : ℕ)
+    (wide : (centroids.count + 15) / 16 * (16 * centroids.dim) ≤ cells) where
+  -- row i's norm is at hand, and row i is as long as a centroid
+  same_nearest : (i : ℕ) → i < rows.count
+      → placed_by rows rownorms (panels_of centroids cells) (norms_of (rows_of centroids)) i ≡ nearest (rows_of centroids) (row_at rows.values.now rows.dim i)
   unfolding nearest
-  same_nearest cells wide i h =
-      let fits : i * dim + dim ≤ length values = omega (arith, room i n dim h, a.1.0) in
-      let norm-is : get_or rownorms i nan ≡ norm_of (row_at values dim i)
-      = ap (λ (l : List Float). get_or l i nan) (a.1.1.1.1 ∙ map_rows norm_of dim n values) ∙ get_d_tab (λ j. norm_of (row_at values dim j)) n i nan h in
-      ap placement (rw norm-is (by_panels_lem (row_at values dim i) centroids dim k cells a.1.1.0 wide (length-take-le dim (drop (i * dim) values) (rw length-drop (omega arith)))))
+  same_nearest i h =
+      let norm-is : get_or rownorms i nan ≡ norm_of (row_at rows.values.now rows.dim i)
+      = ap (λ (l : List Float). get_or l i nan) (a.normed ∙ map_rows norm_of rows.dim rows.count rows.values.now) ∙ get_d_tab (λ j. norm_of (row_at rows.values.now rows.dim j)) rows.count i nan h in
+      ap placement (rw norm-is (by_panels_lem (row_at rows.values.now rows.dim i) centroids cells wide (row_long rows i h ∙ sym a.alike)))
 
-  pub by_centroids : {panels norms : List Float} (labels₀ labels : List ℕ) (distances : List Float) (tally : Tally) (cells : ℕ) → (k + 15) / 16 * (16 * dim) ≤ cells
-      → length labels₀ ≡ n → panels ≡ panels_of centroids dim k cells → norms ≡ norms_of (rows_from dim k centroids)
-      → Assigned (tabulate (placed_by values rownorms dim panels norms) (length labels₀)) labels₀ labels distances tally
-      → Assigned (nearests (rows_from dim k centroids) (rows_from dim n values)) labels₀ labels distances tally
+  pub by_centroids : {panels norms : List Float} (labels₀ labels : List ℕ) (distances : List Float) (tally : Tally)
+      → length labels₀ ≡ n → panels ≡ panels_of centroids cells → norms ≡ norms_of (rows_of centroids)
+      → Assigned (tabulate (placed_by rows rownorms panels norms) (length labels₀)) labels₀ labels distances tally
+      → Assigned (nearests (rows_of centroids) (rows_of rows)) labels₀ labels distances tally
   unfolding nearests
-  by_centroids {panels} {norms} labels₀ labels distances tally cells wide e p q b =
-      let same : tabulate (placed_by values rownorms dim panels norms) (length labels₀) ≡ nearests (rows_from dim k centroids) (rows_from dim n values)
-      = rw (e, p, q) (tab_same _ _ n (same_nearest cells wide) ∙ sym (map_rows (nearest (rows_from dim k centroids)) dim n values)) in
-      subst (λ (found : List Placement). Assigned found labels₀ labels distances tally) same b
+  by_centroids {panels} {norms} labels₀ labels distances tally e p q b =
+      let same : tabulate (placed_by rows rownorms panels norms) (length labels₀) ≡ nearests (rows_of centroids) (rows_of rows)
+      = rw (e, a.labelled, p, q) (tab_same _ _ rows.count same_nearest ∙ sym (map_rows (nearest (rows_of centroids)) rows.dim rows.count rows.values.now)) in
+      subst (λ (found : List (Option Nearest)). Assigned found labels₀ labels distances tally) same b

@@ -2,7 +2,7 @@
 use mathlib.Core.Path.{◌≡◌, refl, sym, ap, ◌∙◌}
 use mathlib.Core.Bool.{Bool, true, false, ◌&&◌}
 use mathlib.Core.List.{List, [], ◌∷◌}
-use Prim.Native.Nat.{ℕ, zero, suc, ◌*◌, ◌≤◌, ◌<◌, min}
+use Prim.Native.Nat.{ℕ, ◌*◌, ◌≤◌, ◌<◌, min}
 use native.Mathlib.Omega.{arith}
 use borrow.Author.Tests.{eqb-true}
 use lib.Dec.{eqb}
@@ -10,17 +10,19 @@ use lib.ListN.{length, replicate}
 use lib.Ieee.{Float}
 use Rattle.sums.specs.Rows.{rows_from}
 use Rattle.sums.specs.Sums.{zero32}
-use Rattle.sums.specs.Refusals.{accepted, within, lowest, lowest_from, unless, on_accepted, cells_of, padded, blank_cell}
+use Rattle.sums.specs.Refusals.{Answer, accepted, refused, within, lowest, lowest_from, unless, on_accepted, cells_of, padded, blank_cell}
 use Rattle.sums.proofs.Tables.{length_tab}
 use Rattle.labels.specs.declared.mode.Mode.{Mode}
-use Rattle.labels.specs.declared.nearest.Placement.{Placement}
+use Rattle.std.specs.Prelude.{Option, Result, Ok, Err}
+use Rattle.sums.specs.declared.refusals.Refusal.{Refusal}
+use Rattle.sums.specs.Refused.{number_of}
+use Rattle.sums.proofs.Told.{unless_number}
+use Rattle.labels.specs.declared.nearest.Nearest.{Nearest}
 use Rattle.labels.specs.declared.nearest.Tally.{Tally}
-use Rattle.labels.specs.Label.{nearests, labels_of, distances_of, unplaced_of}
+use Rattle.labels.specs.Label.{nearests, distances_of, unplaced_of}
 use Rattle.labels.specs.Mode.{unplaced_refusal}
 use Rattle.labels.specs.Inside.{Assigned}
-use Rattle.labels.specs.Call.{label_refusal, label_call, told, Gives}
-use Rattle.labels.specs.declared.call.LabelAnswer.{LabelAnswer}
-use Rattle.labels.specs.declared.call.LabelAnswer.TheVariants.{Labelled, Refused}
+use Rattle.labels.specs.Call.{label_refusal, label_call, Gives}
 use Rattle.sums.proofs.Refusing.{both, within_is, passed, padded_all, padded_none}
 use Rattle.labels.proofs.Assigns.{labels_tab, distances_tab}
 
@@ -58,50 +60,49 @@ fitting rows dim k values centroids cells distances e =
     }
 
 module _ (mode : Mode) (rows dim k : ℕ) (values centroids : List Float) (n m : ℕ) where
-  pub gives_refused : (number : ℕ) (cells : List ℕ) (distances : List Float) → number ≡ label_refusal rows dim k (length values) (length centroids) n m → (number ≡ 0 → ⊥)
-      → cells ≡ replicate n blank_cell → distances ≡ replicate m zero32
-      → Gives (label_call mode rows dim k values centroids n m) n (Refused number) cells × (distances ≡ cells_of zero32 m distances_of (label_call mode rows dim k values centroids n m))
-  unfolding label_call unless on_accepted cells_of
-  gives_refused zero cells distances e h c d = absurd (h refl)
-  gives_refused (suc number) cells distances e h c d =
-      (record { result = rw (← e); labels = c ∙ rw (← e) (sym (padded_none blank_cell n)) }, d ∙ rw (← e) (sym (padded_none zero32 m)))
+  abbrev found : List (Option Nearest)
+  found = nearests (rows_from dim k centroids) (rows_from dim rows values)
 
-  -- the count that the tally tells is that of all rows
-  counted : (labels₀ cells : List ℕ) (distances : List Float) (tally : Tally) → label_refusal rows dim k (length values) (length centroids) n m ≡ 0
-      → Assigned (nearests (rows_from dim k centroids) (rows_from dim n values)) labels₀ cells distances tally
-      → tally.unplaced ≡ unplaced_of (nearests (rows_from dim k centroids) (rows_from dim rows values))
-  counted labels₀ cells distances tally e a =
-      a.counted ∙ ap (λ (r : ℕ). unplaced_of (nearests (rows_from dim k centroids) (rows_from dim r values))) (fitting rows dim k (length values) (length centroids) n m e).cells_are
+  abbrev call : Answer (List (Option Nearest))
+  call = label_call mode rows dim k values centroids n m
 
-  pub gives_lost : (labels₀ cells labels : List ℕ) (distances measured : List Float) (tally : Tally) (number : ℕ) → label_refusal rows dim k (length values) (length centroids) n m ≡ 0
-      → Assigned (nearests (rows_from dim k centroids) (rows_from dim n values)) labels₀ labels measured tally → number ≡ unplaced_refusal mode tally.unplaced → (number ≡ 0 → ⊥)
-      → cells ≡ replicate n blank_cell → distances ≡ replicate m zero32
-      → Gives (label_call mode rows dim k values centroids n m) n (Refused number) cells
-      × (distances ≡ cells_of zero32 m distances_of (label_call mode rows dim k values centroids n m))
-  unfolding label_call unless on_accepted cells_of
-  gives_lost labels₀ cells labels distances measured tally zero e a u h c d = absurd (h refl)
-  gives_lost labels₀ cells labels distances measured tally (suc number) e a u h c d =
-      let same = sym (rw (counted labels₀ labels measured tally e a) at u) in
-      (record { result = rw (e, same); labels = c ∙ rw (e, same) (sym (padded_none blank_cell n)) }, d ∙ rw (e, same) (sym (padded_none zero32 m)))
+  abbrev number : ℕ
+  number = label_refusal rows dim k (length values) (length centroids) n m
 
-  pub gives_labels : (labels₀ cells : List ℕ) (distances : List Float) (tally : Tally) → label_refusal rows dim k (length values) (length centroids) n m ≡ 0
-      → unplaced_refusal mode tally.unplaced ≡ 0 → Assigned (nearests (rows_from dim k centroids) (rows_from dim n values)) labels₀ cells distances tally
-      → Gives (label_call mode rows dim k values centroids n m) n (Labelled tally.unplaced) cells
-      × (distances ≡ cells_of zero32 m distances_of (label_call mode rows dim k values centroids n m))
+  abbrev Gave : Result ℕ Refusal → List ℕ → List Float → Type 0
+  Gave r cells distances = Gives call n r cells × (distances ≡ cells_of zero32 m distances_of call)
+
+  gives_number : (refusal : Refusal) (cells : List ℕ) (distances : List Float) → call ≡ refused (number_of refusal)
+      → cells ≡ replicate n blank_cell → distances ≡ replicate m zero32 → Gave (Err refusal) cells distances
+  unfolding on_accepted cells_of
+  gives_number refusal cells distances e c d = (record { result = rw e; labels = c ∙ rw e (sym (padded_none blank_cell n)) }, d ∙ rw e (sym (padded_none zero32 m)))
+
+  pub gives_refused : (refusal : Refusal) (cells : List ℕ) (distances : List Float) → number_of refusal ≡ number
+      → cells ≡ replicate n blank_cell → distances ≡ replicate m zero32 → Gave (Err refusal) cells distances
+  unfolding label_call
+  gives_refused refusal cells distances e = gives_number refusal cells distances (rw (← e) (unless_number refusal _))
+
+  pub gives_lost : (labels₀ labels cells : List ℕ) (measured distances : List Float) (tally : Tally) (refusal : Refusal) → 0 ≡ number
+      → Assigned found labels₀ labels measured tally → number_of refusal ≡ unplaced_refusal mode tally.unplaced
+      → cells ≡ replicate n blank_cell → distances ≡ replicate m zero32 → Gave (Err refusal) cells distances
+  unfolding label_call unless
+  gives_lost labels₀ labels cells measured distances tally refusal e a u =
+      let same = sym (rw a.counted at u) in
+      gives_number refusal cells distances (rw (← e, same) (unless_number refusal _))
+
+  pub gives_labels : (labels₀ cells : List ℕ) (distances : List Float) (tally : Tally) → 0 ≡ number
+      → 0 ≡ unplaced_refusal mode tally.unplaced → Assigned found labels₀ cells distances tally → Gave (Ok tally.unplaced) cells distances
   unfolding label_call unless on_accepted cells_of
   gives_labels labels₀ cells distances tally e u a =
-      let f = fitting rows dim k (length values) (length centroids) n m e in
-      let none = rw (counted labels₀ cells distances tally e a) at u in
-      let rows_are : n ≡ rows = f.cells_are in
-      let many : m ≡ n = f.distances_are ∙ sym rows_are in
-      let labels_long : length cells ≡ n = ap length (a.labelled ∙ labels_tab (rows_from dim k centroids) dim n values) ∙ length_tab _ n in
-      let distances-long : length distances ≡ m = ap length (a.measured ∙ distances_tab (rows_from dim k centroids) dim n values) ∙ length_tab _ n ∙ sym many in
-      let found : ℕ → List Placement = λ r. nearests (rows_from dim k centroids) (rows_from dim r values) in (
+      let f = fitting rows dim k (length values) (length centroids) n m (sym e) in
+      let none = rw a.counted at u in
+      let labels-long : length cells ≡ n = ap length (a.labelled ∙ labels_tab (rows_from dim k centroids) dim rows values) ∙ length_tab _ rows ∙ sym f.cells_are in
+      let distances-long : length distances ≡ m = ap length (a.measured ∙ distances_tab (rows_from dim k centroids) dim rows values) ∙ length_tab _ rows ∙ sym f.distances_are in (
         record {
-          result = rw (e, none) (ap accepted (counted labels₀ cells distances tally e a));
-          labels = rw (e, none) (sym (padded_all blank_cell n cells labels_long) ∙ ap (λ (l : List ℕ). padded blank_cell n l) (a.labelled ∙ ap (λ (r : ℕ). labels_of (found r)) rows_are));
+          result = rw (← e, ← none) (ap accepted a.counted);
+          labels = rw (← e, ← none) (sym (padded_all blank_cell n cells labels-long) ∙ ap (padded blank_cell n) a.labelled);
         },
-        rw (e, none) (sym (padded_all zero32 m distances distances-long) ∙ ap (λ (l : List Float). padded zero32 m l) (a.measured ∙ ap (λ (r : ℕ). distances_of (found r)) rows_are)),
+        rw (← e, ← none) (sym (padded_all zero32 m distances distances-long) ∙ ap (padded zero32 m) a.measured),
       )
 
 -- with room for the distances of as many rows as are in range, whatever cells are lent, a call is as with a distance for each cell
@@ -120,10 +121,3 @@ room_enough mode rows dim k values centroids n =
     go true false same h e = refl
     go true true false h e = refl
     go true true true h e = let m : min n 4096 ≡ n = omega (arith, (within_is 0 4096 rows h).1, eqb-true n rows e) in rw m
-
--- two answers that are told the same are the same
-pub told_once : (r r' : LabelAnswer) → told r ≡ told r' → r ≡ r'
-told_once (Labelled unplaced) (Labelled unplaced') e = let z : unplaced ≡ unplaced' = cc in rw z
-told_once (Labelled unplaced) (Refused number) e = let z : ◌≡◌ {A = ℕ} 0 1 = cc in absurd (omega arith)
-told_once (Refused number) (Labelled unplaced) e = let z : ◌≡◌ {A = ℕ} 0 1 = cc in absurd (omega arith)
-told_once (Refused number) (Refused number') e = let z : number ≡ number' = cc in rw z

@@ -12,10 +12,16 @@ use lib.Ieee.{Float, nan, binary32, add, mul}
 use Rattle.sums.specs.Rows.{Row, row_at}
 use Rattle.sums.specs.Sums.{zero32, dot_of, sum_from}
 use Rattle.sums.specs.Tables.{tabulate}
+use Rattle.sums.specs.declared.readings.Rows.{Rows}
 use Rattle.sums.proofs.Tables.{get_d_tab, length_tab, tab_same}
 use Rattle.sums.proofs.Rows.{room, row_of, cell_of}
 use Rattle.sums.proofs.Sums.{dot_snoc}
 use Rattle.labels.specs.Panels.{value_at, panels_of, column_of, dots_of}
+
+-- each of the rows is `dim` long
+pub row_long : (rows : Rows) (i : ℕ) → i < rows.count → length (row_at rows.values.now rows.dim i) ≡ rows.dim
+row_long rows i h =
+    length-take-le rows.dim (drop (i * rows.dim) rows.values.now) (rw length-drop (omega (arith, room i rows.count rows.dim h, rows.whole)))
 
 -- ---- sixteen dots: the dot of the row's first i values with column j
 abbrev pub lane_at : List Float → Float → List Float → ℕ → ℕ → Float
@@ -71,18 +77,21 @@ unfolding dots_of
 dots_at row panel j h = get_d_tab (λ i. dot_of row (column_of panel (length row) i)) 16 j nan h
 
 -- ---- what stands at a place of one panel, and of them all
-module _ (centroids : List Float) (dim k : ℕ) where
+module _ (centroids : Rows) where
+  abbrev dim : ℕ
+  dim = centroids.dim
+
   abbrev pub in_panel : ℕ → ℕ → Float
-  in_panel first p = value_at centroids dim k (first + p % 16) (p / 16)
+  in_panel first p = value_at centroids (first + p % 16) (p / 16)
 
   abbrev pub in_panels : ℕ → Float
-  in_panels p = value_at centroids dim k (16 * (p / 16 / dim) + p % 16) (p / 16 % dim)
+  in_panels p = value_at centroids (16 * (p / 16 / dim) + p % 16) (p / 16 % dim)
 
   -- line d of a panel
-  pub line_is : (first d : ℕ) → tabulate (λ j. value_at centroids dim k (first + j) d) 16 ≡ tabulate (λ j. in_panel first (16 * d + j)) 16
+  pub line_is : (first d : ℕ) → tabulate (λ j. value_at centroids (first + j) d) 16 ≡ tabulate (λ j. in_panel first (16 * d + j)) 16
   line_is first d = lines 16 (omega arith)
     where
-      lines : (n : ℕ) → n ≤ 16 → tabulate (λ j. value_at centroids dim k (first + j) d) n ≡ tabulate (λ j. in_panel first (16 * d + j)) n
+      lines : (n : ℕ) → n ≤ 16 → tabulate (λ j. value_at centroids (first + j) d) n ≡ tabulate (λ j. in_panel first (16 * d + j)) n
       lines n h = tab_same _ _ n (λ j l.
           let q : (16 * d + j) / 16 ≡ d = omega arith in
           let r : (16 * d + j) % 16 ≡ j = omega arith in
@@ -101,29 +110,25 @@ module _ (centroids : List Float) (dim k : ℕ) where
   panel_is g = sym (tab_same (λ p. in_panels (g * (16 * dim) + p)) (in_panel (16 * g)) (16 * dim) (place_in g))
 
 -- ---- column j of panel g is centroid 16·g + j
-module _ (centroids : List Float) (dim k n g j : ℕ) (hj : j < 16) (inside : g * (16 * dim) + 16 * dim ≤ n) where
-  column_values : column_of (row_at (panels_of centroids dim k n) (16 * dim) g) dim j ≡ tabulate (value_at centroids dim k (16 * g + j)) dim
+module _ (centroids : Rows) (n g j : ℕ) (hj : j < 16) (inside : g * (16 * centroids.dim) + 16 * centroids.dim ≤ n) where
+  column_values : column_of (row_at (panels_of centroids n) (16 * centroids.dim) g) centroids.dim j ≡ tabulate (value_at centroids (16 * g + j)) centroids.dim
   unfolding panels_of
-  column_values = tab_same _ _ dim (λ d l.
+  column_values = let dim = centroids.dim in tab_same _ _ dim (λ d l.
       let q : (16 * d + j) / 16 ≡ d = omega arith in
       let r : (16 * d + j) % 16 ≡ j = omega arith in
-      get_or-take (16 * dim) (drop (g * (16 * dim)) (tabulate (in_panels centroids dim k) n)) (16 * d + j) nan (omega arith)
-      ∙ get_or-drop (g * (16 * dim)) (tabulate (in_panels centroids dim k) n) (16 * d + j) nan
-      ∙ get_d_tab (in_panels centroids dim k) n (g * (16 * dim) + (16 * d + j)) nan (omega arith)
-      ∙ place_in centroids dim k g (16 * d + j) (omega arith)
+      get_or-take (16 * dim) (drop (g * (16 * dim)) (tabulate (in_panels centroids) n)) (16 * d + j) nan (omega arith)
+      ∙ get_or-drop (g * (16 * dim)) (tabulate (in_panels centroids) n) (16 * d + j) nan
+      ∙ get_d_tab (in_panels centroids) n (g * (16 * dim) + (16 * d + j)) nan (omega arith)
+      ∙ place_in centroids g (16 * d + j) (omega arith)
       ∙ rw (q, r))
 
-  pub column_centroid : length centroids ≡ k * dim → 16 * g + j < k
-      → column_of (row_at (panels_of centroids dim k n) (16 * dim) g) dim j ≡ row_at centroids dim (16 * g + j)
-  column_centroid size h =
-      let fits : (16 * g + j) * dim + dim ≤ length centroids = omega (arith, room (16 * g + j) k dim h) in
-      let long : length (row_at centroids dim (16 * g + j)) ≡ dim
-      = length-take-le dim (drop ((16 * g + j) * dim) centroids) (omega (arith, length-drop ((16 * g + j) * dim) centroids)) in
-      column_values ∙ ext_get_or nan _ _ (length_tab (value_at centroids dim k (16 * g + j)) dim ∙ sym long) (λ d l.
-      let l : d < dim = rw (length_tab (value_at centroids dim k (16 * g + j)) dim) at l in
-      get_d_tab (value_at centroids dim k (16 * g + j)) dim d nan l
-      ∙ rw (lt-ltb (16 * g + j) k h, get_or-take dim (drop ((16 * g + j) * dim) centroids) d nan l, get_or-drop ((16 * g + j) * dim) centroids d nan))
+  pub column_centroid : 16 * g + j < centroids.count
+      → column_of (row_at (panels_of centroids n) (16 * centroids.dim) g) centroids.dim j ≡ row_at centroids.values.now centroids.dim (16 * g + j)
+  column_centroid h =
+      let value = value_at centroids (16 * g + j) in
+      column_values ∙ ext_get_or nan _ _ (length_tab value centroids.dim ∙ sym (row_long centroids (16 * g + j) h)) (λ d l.
+      get_d_tab value centroids.dim d nan (rw (length_tab value centroids.dim) at l) ∙ rw (lt-ltb (16 * g + j) centroids.count h))
 
-pub panels_length : (centroids : List Float) (dim k n : ℕ) → length (panels_of centroids dim k n) ≡ n
+pub panels_length : (centroids : Rows) (n : ℕ) → length (panels_of centroids n) ≡ n
 unfolding panels_of
-panels_length centroids dim k n = length_tab _ n
+panels_length centroids n = length_tab _ n

@@ -1,4 +1,4 @@
--- What a search answers, case by case, and how many answers are `Unplaced`. Assumes nothing.
+-- What a search answers, case by case, and how many answers are `None`. Assumes nothing.
 use mathlib.Core.Path.{◌≡◌, refl, sym, ap}
 use mathlib.Core.Bool.{Bool, true, false, cond}
 use mathlib.Core.List.{List, [], ◌∷◌, ◌++◌, map}
@@ -10,24 +10,23 @@ use lib.Ieee.{Float, nan, inf, fin, lt, eq}
 use Rattle.sums.specs.Rows.{Row}
 use Rattle.sums.specs.Sums.{infinity}
 use Rattle.sums.proofs.Weighs.{one}
+use Rattle.std.specs.Prelude.{Option, Some, None}
 use Rattle.labels.specs.declared.nearest.Nearest.{Nearest}
-use Rattle.labels.specs.declared.nearest.Placement.{Placement}
-use Rattle.labels.specs.declared.nearest.Placement.TheVariants.{Placed, Unplaced}
 use Rattle.labels.specs.Label.{score, search, placement, nearest, nearests, label_in, distance_in, distances_of, unplaced_of}
 use Rattle.labels.proofs.Firsts.{FirstOf, first_of}
 
 -- ---- the count
-pub unplaced_append : (a b : List Placement) → unplaced_of (a ++ b) ≡ unplaced_of a + unplaced_of b
+pub unplaced_append : (a b : List (Option Nearest)) → unplaced_of (a ++ b) ≡ unplaced_of a + unplaced_of b
 unfolding unplaced_of
 unplaced_append [] b = omega arith
-unplaced_append (Placed label distance ∷ a) b = omega (arith, unplaced_append a b)
-unplaced_append (Unplaced ∷ a) b = omega (arith, unplaced_append a b)
+unplaced_append (Some best ∷ a) b = omega (arith, unplaced_append a b)
+unplaced_append (None ∷ a) b = omega (arith, unplaced_append a b)
 
-pub unplaced_most : (found : List Placement) → unplaced_of found ≤ length found
+pub unplaced_most : (found : List (Option Nearest)) → unplaced_of found ≤ length found
 unfolding unplaced_of
 unplaced_most [] = omega arith
-unplaced_most (Placed label distance ∷ found) = omega (arith, unplaced_most found)
-unplaced_most (Unplaced ∷ found) = omega (arith, unplaced_most found)
+unplaced_most (Some best ∷ found) = omega (arith, unplaced_most found)
+unplaced_most (None ∷ found) = omega (arith, unplaced_most found)
 
 -- ---- label and distance are the search's own, placed or not
 module _ (scores : List Float) (r : Nearest) (f : FirstOf scores r) where
@@ -67,7 +66,7 @@ unfolding placement unplaced_of eq
 place_infinite best = go (lt best.distance infinity) refl
   where
     go : (t : Bool) → lt best.distance infinity ≡ t
-        → one (eq (distance_in (cond t (Placed best.label best.distance) Unplaced)) infinity) ≡ unplaced_of (cond t (Placed best.label best.distance) Unplaced ∷ [])
+        → one (eq (distance_in (cond t (Some best) None)) infinity) ≡ unplaced_of (cond t (Some best) None ∷ [])
     go true e = rw (below_infinity best.distance e)
     go false e = refl
 

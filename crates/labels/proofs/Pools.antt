@@ -17,7 +17,7 @@ use Rattle.labels.specs.Pool.{farther, block_pool, block_pools, pool}
 use Rattle.labels.specs.Inside.{Holds}
 use Rattle.labels.proofs.Blocks.{below_block, blocks_none}
 use Rattle.sums.proofs.Inserts.{place_within, place_past, place_in, inserted_rest}
-use Rattle.sums.proofs.Belows.{below_nil, below_at, below_take, below_place}
+use Rattle.sums.proofs.Belows.{below_nil, below_take, below_place}
 
 -- the pool after the positions listed were put to it, cut to cap: in the first r cells, and the rest as it was
 pub record Pooled (distances : List Float) (at : List ℕ) (count cap : ℕ) (listed : List ℕ) (r : ℕ) (at' : List ℕ) : Type 0 where
@@ -82,22 +82,23 @@ pub block_end : (ds : List Float) (at₀ at : List ℕ) (count i : ℕ) → i �
 unfolding block_pool
 block_end ds at₀ at count i e a = (a.front ∙ rw e, a.held.1.0)
 
--- ---- a block's pool put to the joined pool: the first n of `inside` are the block's, i of them are in
-module _ (ds : List Float) (start end : ℕ) (inside : List ℕ) (n : ℕ) (l : end ≤ length ds) (room : n ≤ length inside) (e : take n inside ≡ block_pool (take (end - start) (drop start ds))) where
-  pub join_position : start ≤ end → (i : ℕ) → i < n → start + get_or inside i 0 < end
+-- ---- a block's pool put to the joined pool: i of its positions are in
+module _ (ds : List Float) (start end : ℕ) (places : List ℕ) (l : end ≤ length ds) (e : places ≡ block_pool (take (end - start) (drop start ds))) where
+  pub join_position : start ≤ end → (i : ℕ) → i < length places → start + get_or places i 0 < end
   join_position h i k =
       let rows = take (end - start) (drop start ds) in
       let long : length rows ≡ end - start = length-take-le (end - start) (drop start ds) (omega (arith, length-drop start ds)) in
-      omega (arith, long, below_at (length rows) n inside room (rw e (below_block rows)) i k)
+      let below : Below (length rows) places = rw e (below_block rows) in
+      omega (arith, long, below i k)
 
-  module _ (at₀ at : List ℕ) (count cap held i : ℕ) (a : Pooled ds at₀ count cap (map (λ p. start + p) (take i inside)) held at) where
-    pub join_step : (at' : List ℕ) (r q : ℕ) → i < n → q ≡ start + get_or inside i 0 → Pooled ds at held cap (q ∷ []) r at' → Pooled ds at₀ count cap (map (λ p. start + p) (take (i + 1) inside)) r at'
-    join_step at' r q h f b =
-        rw (add-one i, take-suc inside i 0 (omega (arith, h, room)), map-append (λ p. start + p) (take i inside) (get_or inside i 0 ∷ []), ← f)
-        (pooled_then ds at₀ at at' count held r cap (map (λ p. start + p) (take i inside)) (q ∷ []) a b)
+  module _ {at₀ at : List ℕ} {count cap held i : ℕ} (a : Pooled ds at₀ count cap (map (λ p. start + p) (take i places)) held at) where
+    pub join_step : {at' : List ℕ} {r q : ℕ} → i < length places → q ≡ start + get_or places i 0 → Pooled ds at held cap (q ∷ []) r at' → Pooled ds at₀ count cap (map (λ p. start + p) (take (i + 1) places)) r at'
+    join_step {at'} {r} {q} h f b =
+        rw (add-one i, take-suc places i 0 h, map-append (λ p. start + p) (take i places) (get_or places i 0 ∷ []), ← f)
+        (pooled_then ds at₀ at at' count held r cap (map (λ p. start + p) (take i places)) (q ∷ []) a b)
 
-    pub join_end : i ≡ n → Pooled ds at₀ count cap (map (λ p. start + p) (block_pool (take (end - start) (drop start ds)))) held at
-    join_end f = rw (← e, ← f) a
+    pub join_end : i ≡ length places → Pooled ds at₀ count cap (map (λ p. start + p) (block_pool (take (end - start) (drop start ds)))) held at
+    join_end f = rw (← e) (rw (f, take_all (length places) places (omega arith)) at a)
 
 -- ---- the blocks in turn: the pools of those before `start` are in
 pub record Gathering (ds : List Float) (block cap : ℕ) (at₀ : List ℕ) (held : ℕ) (at : List ℕ) (start : ℕ) : Type 0 where
@@ -110,28 +111,21 @@ pub record Gathering (ds : List Float) (block cap : ℕ) (at₀ : List ℕ) (hel
 pub gathering_start : (ds : List Float) (block cap : ℕ) (at : List ℕ) → Holds ds at 0 cap → Gathering ds block cap at 0 at 0
 gathering_start ds block cap at h = record { fuel = length ds; seen = []; enough = omega arith; whole = refl; pooled = pooled_none ds at 0 cap h }
 
--- the rows of a block, and the blocks after it, by a size that stops at the end
-module _ (fuel block start size : ℕ) (ds : List Float) (l : start < length ds) (e : size ≡ min (length ds - start) block) where
-  same_rows : take block (drop start ds) ≡ take (start + size - start) (drop start ds)
-  same_rows = elim (dec_le block (length ds - start)) [
-    | yes q ↦ let s : start + size - start ≡ block = omega arith in rw s
-    | no q ↦ take_all block (drop start ds) (omega (arith, length-drop start ds)) ∙ sym (take_all (start + size - start) (drop start ds) (omega (arith, length-drop start ds)))
-  ]
+-- the rows of a block, by a size that stops at the end
+same_rows : (block start size : ℕ) (ds : List Float) → size ≡ min (length ds - start) block → take block (drop start ds) ≡ take (start + size - start) (drop start ds)
+same_rows block start size ds e = elim (dec_le block (length ds - start)) [
+  | yes q ↦ let s : start + size - start ≡ block = omega arith in rw s
+  | no q ↦ take_all block (drop start ds) (omega (arith, length-drop start ds)) ∙ sym (take_all (start + size - start) (drop start ds) (omega (arith, length-drop start ds)))
+]
 
-  same_later : block_pools fuel block (start + block) (drop block (drop start ds)) ≡ block_pools fuel block (start + size) (drop (start + size) ds)
-  same_later = elim (dec_le block (length ds - start)) [
-    | yes q ↦ let s : size ≡ block = omega arith in rw (s, drop-drop block start ds)
-    | no q ↦ rw (drop-drop block start ds, drop_of_length-le ds {i = start + block} (omega arith), drop_of_length-le ds {i = start + size} (omega arith)) (blocks_none fuel block (start + block) ∙ sym (blocks_none fuel block (start + size)))
-  ]
-
-pub gathering_step : (ds : List Float) (block cap : ℕ) (at₀ : List ℕ) (held r : ℕ) (at at' : List ℕ) (start size : ℕ) → Gathering ds block cap at₀ held at start → start < length ds → 0 < block
+pub gathering_step : {ds : List Float} {block cap : ℕ} {at₀ : List ℕ} {held r : ℕ} {at at' : List ℕ} {start : ℕ} (size : ℕ) → Gathering ds block cap at₀ held at start → start < length ds → 0 < block
     → size ≡ min (length ds - start) block
     → Pooled ds at held cap (map (λ p. start + p) (block_pool (take (start + size - start) (drop start ds)))) r at'
-    → Gathering ds block cap at₀ r at' (start + size)
+    → Gathering ds block cap at₀ r at' (start + block)
 unfolding block_pools
-gathering_step ds block cap at₀ held r at at' start size g l p e b = go g.fuel g.enough g.whole
+gathering_step {ds} {block} {cap} {at₀} {held} {r} {at} {at'} {start} size g l p e b = go g.fuel g.enough g.whole
   where
-    go : (fuel : ℕ) → length ds - start ≤ fuel → g.seen ++ block_pools fuel block start (drop start ds) ≡ block_pools (length ds) block 0 ds → Gathering ds block cap at₀ r at' (start + size)
+    go : (fuel : ℕ) → length ds - start ≤ fuel → g.seen ++ block_pools fuel block start (drop start ds) ≡ block_pools (length ds) block 0 ds → Gathering ds block cap at₀ r at' (start + block)
     go zero n w = absurd (omega arith)
     go (suc fuel) n w =
         let next = map (λ p. start + p) (block_pool (take (start + size - start) (drop start ds))) in
@@ -139,13 +133,13 @@ gathering_step ds block cap at₀ held r at at' start size g l p e b = go g.fuel
           fuel = fuel;
           seen = g.seen ++ next;
           enough = omega arith;
-          whole = append_assoc g.seen next _ ∙ (rw (same_rows fuel block start size ds l e, same_later fuel block start size ds l e) at w);
+          whole = append_assoc g.seen next _ ∙ (rw (same_rows block start size ds e, drop-drop block start ds) at w);
           pooled = pooled_then ds at₀ at at' 0 held r cap g.seen next g.pooled b;
         }
 
-pub gathering_end : (ds : List Float) (block cap : ℕ) (at₀ : List ℕ) (held : ℕ) (at : List ℕ) (start : ℕ) → Gathering ds block cap at₀ held at start → length ds ≤ start → take held at ≡ take cap (pool block ds)
+pub gathering_end : {ds : List Float} {block cap : ℕ} {at₀ : List ℕ} {held : ℕ} {at : List ℕ} {start : ℕ} → Gathering ds block cap at₀ held at start → length ds ≤ start → (take held at ≡ take cap (pool block ds)) × Holds ds at held cap
 unfolding pool
-gathering_end ds block cap at₀ held at start g l =
+gathering_end {ds} {block} {cap} {at₀} {held} {at} {start} g l =
     let e : g.seen ≡ block_pools (length ds) block 0 ds
     = sym (append-nil g.seen) ∙ (rw (drop_of_length-le ds {i = start} l, blocks_none g.fuel block start) at g.whole) in
-    g.pooled.front ∙ rw e
+    (g.pooled.front ∙ rw e, g.pooled.held)

@@ -16,20 +16,19 @@ use Rattle.sums.specs.Refusals.{Answer, accepted, refused, within, unless, on_ac
 use Rattle.sums.proofs.Tables.{map_index, length_tab, get_d_tab}
 use Rattle.sums.proofs.Rows.{rows_length}
 use Rattle.sums.proofs.Floats.{lt_irrefl}
+use Rattle.std.specs.Prelude.{Option, Some, None, Result, Ok}
+use Rattle.sums.specs.declared.refusals.Refusal.{Refusal}
 use Rattle.labels.specs.declared.nearest.Nearest.{Nearest}
-use Rattle.labels.specs.declared.nearest.Placement.{Placement}
-use Rattle.labels.specs.declared.nearest.Placement.TheVariants.{Placed, Unplaced}
 use Rattle.labels.specs.declared.mode.Mode.{Mode}
 use Rattle.labels.specs.declared.mode.Mode.TheVariants.{Strict, OldWay}
-use Rattle.labels.specs.declared.call.LabelAnswer.{LabelAnswer}
-use Rattle.labels.specs.declared.call.LabelAnswer.TheVariants.{Labelled}
 use Rattle.labels.specs.Label.{score, nothing_yet, search, placement, nearest, nearests, label_in, distance_in, labels_of, distances_of, unplaced_of}
 use Rattle.labels.specs.Mode.{unplaced_refusal}
-use Rattle.labels.specs.Call.{label_refusal, label_call, told, Gives}
+use Rattle.labels.specs.Call.{label_refusal, label_call, Gives}
 use Rattle.sums.proofs.Refusing.{padded_all}
+use Rattle.sums.proofs.Told.{told_same}
 use Rattle.sums.proofs.Whens.{fails_exactly, later_exactly, accepted_exactly as accepted_exactly_lem, refused_by, one_or_two}
 use Rattle.labels.proofs.Modes.{strict_none, allowed, allowed_nine, allowed_otherwise, allowed_accepted, called_old, called_strict}
-use Rattle.labels.proofs.Calls.{Fitting, fitting, told_once}
+use Rattle.labels.proofs.Calls.{Fitting, fitting}
 use Rattle.labels.proofs.Assigns.{labels_tab, distances_tab}
 use Rattle.labels.proofs.Firsts.{FirstOf, first_of, search_below, from_known}
 use Rattle.labels.proofs.Places.{nearest_label, nearest_distance, infinites_in, infinite_unplaced, unplaced_most}
@@ -40,18 +39,18 @@ unfolding search
 label_first centroids row = first_of (map (score row) centroids)
 
 -- ---- what is answered, by its cases: a cluster of smallest score and the first such, with that score, which is below infinity; or that no score is
-abbrev pub Answers : List Float → Placement → Type 0
-Answers scores (Placed label distance) =
-    (label < length scores) × ((get_or scores label nan ≡ distance) × ((lt distance infinity ≡ true)
-    × (((j : ℕ) → j < length scores → lt (get_or scores j nan) distance ≡ false) × ((j : ℕ) → j < label → le (get_or scores j nan) distance ≡ false))))
-Answers scores Unplaced = (j : ℕ) → j < length scores → lt (get_or scores j nan) infinity ≡ false
+abbrev pub Answers : List Float → Option Nearest → Type 0
+Answers scores (Some best) =
+    (best.label < length scores) × ((get_or scores best.label nan ≡ best.distance) × ((lt best.distance infinity ≡ true)
+    × (((j : ℕ) → j < length scores → lt (get_or scores j nan) best.distance ≡ false) × ((j : ℕ) → j < best.label → le (get_or scores j nan) best.distance ≡ false))))
+Answers scores None = (j : ℕ) → j < length scores → lt (get_or scores j nan) infinity ≡ false
 
 answers : (scores : List Float) (r : Nearest) → FirstOf scores r → Answers scores (placement r)
 unfolding placement
 answers scores r f = go (lt r.distance infinity) refl f.found
   where
     go : (t : Bool) → lt r.distance infinity ≡ t → ((r.label < length scores) × ((get_or scores r.label nan ≡ r.distance) × (lt r.distance infinity ≡ true))) ⊎ (r ≡ nothing_yet)
-        → Answers scores (cond t (Placed r.label r.distance) Unplaced)
+        → Answers scores (cond t (Some r) None)
     go true e (inl w) = (w.0, (w.1.0, (e, (f.smallest, f.first))))
     go true e (inr n) = let d : r.distance ≡ infinity = ap (λ (m : Nearest). m.distance) n in absurd (false≢true (sym (lt_irrefl infinity) ∙ rw d at e))
     go false e (inl w) = absurd (false≢true (sym e ∙ w.1.1))
@@ -62,14 +61,14 @@ unfolding nearest
 answer_first centroids row = answers (map (score row) centroids) (search centroids row) (label_first centroids row)
 
 -- ---- a row is unplaced exactly when no score is below infinity
-pub unplaced_exactly : (centroids : List Row) (row : Row) → (nearest centroids row ≡ Unplaced)
+pub unplaced_exactly : (centroids : List Row) (row : Row) → (nearest centroids row ≡ None)
     ↔ ((j : ℕ) → j < length (map (score row) centroids) → lt (get_or (map (score row) centroids) j nan) infinity ≡ false)
 unplaced_exactly centroids row = ((λ e. rw e at (answer_first centroids row)), (λ none. go (nearest centroids row) refl none (answer_first centroids row)))
   where
-    go : (p : Placement) → nearest centroids row ≡ p → ((j : ℕ) → j < length (map (score row) centroids) → lt (get_or (map (score row) centroids) j nan) infinity ≡ false)
-        → Answers (map (score row) centroids) p → nearest centroids row ≡ Unplaced
-    go (Placed label distance) e none a = absurd (false≢true (sym (none label a.0) ∙ rw a.1.0 a.1.1.0))
-    go Unplaced e none a = e
+    go : (p : Option Nearest) → nearest centroids row ≡ p → ((j : ℕ) → j < length (map (score row) centroids) → lt (get_or (map (score row) centroids) j nan) infinity ≡ false)
+        → Answers (map (score row) centroids) p → nearest centroids row ≡ None
+    go (Some best) e none a = absurd (false≢true (sym (none best.label a.0) ∙ rw a.1.0 a.1.1.0))
+    go None e none a = e
 
 -- ---- label and distance are those that the search alone gives, as before there was such an answer, for every row
 pub labels_before : (centroids rows : List Row) → labels_of (nearests centroids rows) ≡ map (λ row. (search centroids row).label) rows
@@ -127,10 +126,10 @@ distances_known centroids [] i l = absurd (not-suc-le-zero l)
 distances_known centroids (row ∷ rows) zero l = rw (nearest_distance centroids row) (from_known 0 (map (score row) centroids) nothing_yet refl)
 distances_known centroids (row ∷ rows) (suc i) l = distances_known centroids rows i (le_of_suc-le-suc l)
 
--- ---- what a caller reads in the cells of a call that is told `Labelled`, with the count
+-- ---- what a caller reads in the cells of a call that is told `Ok`, with the count
 module _ (mode : Mode) (rows dim k : ℕ) (values centroids : List Float) (n m unplaced : ℕ) (cells : List ℕ)
-    (given : Gives (label_call mode rows dim k values centroids n m) n (Labelled unplaced) cells) where
-  abbrev found : List Placement
+    (given : Gives (label_call mode rows dim k values centroids n m) n (Ok unplaced) cells) where
+  abbrev found : List (Option Nearest)
   found = nearests (rows_from dim k centroids) (rows_from dim rows values)
 
   abbrev scores_of : ℕ → List Float
@@ -144,7 +143,7 @@ module _ (mode : Mode) (rows dim k : ℕ) (values centroids : List Float) (n m u
       go (label_refusal rows dim k (length values) (length centroids) n m) (unplaced_refusal mode (unplaced_of found)) refl refl given.result given.labels
     where
       go : (number lost : ℕ) → label_refusal rows dim k (length values) (length centroids) n m ≡ number → unplaced_refusal mode (unplaced_of found) ≡ lost
-          → told (Labelled unplaced) ≡ on_accepted unplaced_of (unless number (unless lost (accepted found)))
+          → accepted unplaced ≡ on_accepted unplaced_of (unless number (unless lost (accepted found)))
           → cells ≡ cells_of blank_cell n labels_of (unless number (unless lost (accepted found)))
           → (label_refusal rows dim k (length values) (length centroids) n m ≡ 0)
           × ((cells ≡ labels_of found) × ((unplaced ≡ unplaced_of found) × (unplaced_refusal mode (unplaced_of found) ≡ 0)))
@@ -174,7 +173,7 @@ module _ (mode : Mode) (rows dim k : ℕ) (values centroids : List Float) (n m u
       ∙ get_d_tab (λ j. label_in (nearest (rows_from dim k centroids) (row_at values dim j))) rows i 0 l
 
   -- row i's cell holds the label of one answer to its scores
-  pub cell_first : (i : ℕ) → i < rows → (p : Placement) × (Answers (scores_of i) p × (get_or cells i 0 ≡ label_in p))
+  pub cell_first : (i : ℕ) → i < rows → (p : Option Nearest) × (Answers (scores_of i) p × (get_or cells i 0 ≡ label_in p))
   cell_first i l = (nearest (rows_from dim k centroids) (row_at values dim i), (answer_first (rows_from dim k centroids) (row_at values dim i), cell_nearest i l))
 
   -- the count is at most that of the rows
@@ -200,7 +199,7 @@ module _ (mode : Mode) (rows dim k : ℕ) (values centroids : List Float) (n m u
         ∙ get_d_tab (λ j. distance_in (nearest (rows_from dim k centroids) (row_at values dim j))) rows i nan l
 
     -- and its other cell holds the distance of the same answer
-    pub cell_answer : (i : ℕ) → i < rows → (p : Placement) × (Answers (scores_of i) p × ((get_or cells i 0 ≡ label_in p) × (get_or distances i nan ≡ distance_in p)))
+    pub cell_answer : (i : ℕ) → i < rows → (p : Option Nearest) × (Answers (scores_of i) p × ((get_or cells i 0 ≡ label_in p) × (get_or distances i nan ≡ distance_in p)))
     cell_answer i l =
         (nearest (rows_from dim k centroids) (row_at values dim i), (answer_first (rows_from dim k centroids) (row_at values dim i), (cell_nearest i l, cell_distance i l)))
 
@@ -208,22 +207,22 @@ module _ (mode : Mode) (rows dim k : ℕ) (values centroids : List Float) (n m u
     pub cell_unplaced : (i : ℕ) → i < rows → (get_or distances i nan ≡ infinity) ↔ ((j : ℕ) → j < length (scores_of i) → lt (get_or (scores_of i) j nan) infinity ≡ false)
     cell_unplaced i l = let a = cell_answer i l in go a.0 a.1.0 a.1.1.1
       where
-        go : (p : Placement) → Answers (scores_of i) p → get_or distances i nan ≡ distance_in p
+        go : (p : Option Nearest) → Answers (scores_of i) p → get_or distances i nan ≡ distance_in p
             → (get_or distances i nan ≡ infinity) ↔ ((j : ℕ) → j < length (scores_of i) → lt (get_or (scores_of i) j nan) infinity ≡ false)
-        go (Placed label distance) a e = (
-          (λ d. let z : distance ≡ infinity = sym e ∙ d in absurd (false≢true (sym (lt_irrefl infinity) ∙ rw z at a.1.1.0))),
-          (λ none. absurd (false≢true (sym (none label a.0) ∙ rw a.1.0 a.1.1.0))),
+        go (Some best) a e = (
+          (λ d. let z : best.distance ≡ infinity = sym e ∙ d in absurd (false≢true (sym (lt_irrefl infinity) ∙ rw z at a.1.1.0))),
+          (λ none. absurd (false≢true (sym (none best.label a.0) ∙ rw a.1.0 a.1.1.0))),
         )
-        go Unplaced a e = ((λ d. a), (λ none. e))
+        go None a e = ((λ d. a), (λ none. e))
 
     -- the count is the number of infinite distances
     pub cells_infinite : unplaced ≡ infinites_in distances
     cells_infinite = labelled.1.1.0 ∙ (count_infinite (rows_from dim k centroids) (rows_from dim rows values) ∙ ap infinites_in (sym distances_are))
 
--- ---- in any two calls that are told `Labelled`, each in either way, two rows of the same readings have the same label, whatever stands around them
+-- ---- in any two calls that are told `Ok`, each in either way, two rows of the same readings have the same label, whatever stands around them
 pub cells_alike : (mode mode' : Mode) (rows rows' dim k : ℕ) (values values' centroids : List Float) (n n' m m' unplaced unplaced' : ℕ) (cells cells' : List ℕ)
-    → Gives (label_call mode rows dim k values centroids n m) n (Labelled unplaced) cells
-    → Gives (label_call mode' rows' dim k values' centroids n' m') n' (Labelled unplaced') cells'
+    → Gives (label_call mode rows dim k values centroids n m) n (Ok unplaced) cells
+    → Gives (label_call mode' rows' dim k values' centroids n' m') n' (Ok unplaced') cells'
     → (i i' : ℕ) → i < rows → i' < rows' → row_at values dim i ≡ row_at values' dim i' → get_or cells i 0 ≡ get_or cells' i' 0
 cells_alike mode mode' rows rows' dim k values values' centroids n n' m m' unplaced unplaced' cells cells' g g' i i' l l' e =
     cell_nearest mode rows dim k values centroids n m unplaced cells g i l
@@ -231,7 +230,7 @@ cells_alike mode mode' rows rows' dim k values values' centroids n n' m m' unpla
 
 -- ---- which number refuses a call, and exactly when
 module _ (rows dim k : ℕ) (values centroids : List Float) (n m : ℕ) where
-  abbrev pub call : Mode → Answer (List Placement)
+  abbrev pub call : Mode → Answer (List (Option Nearest))
   call mode = label_call mode rows dim k values centroids n m
 
   -- every number is in range
@@ -242,10 +241,10 @@ module _ (rows dim k : ℕ) (values centroids : List Float) (n m : ℕ) where
   abbrev pub slices : Bool
   slices = eqb (length values) (rows * dim) && eqb (length centroids) (k * dim) && eqb n rows && eqb m rows
 
-  abbrev pub answer : List Placement
+  abbrev pub answer : List (Option Nearest)
   answer = nearests (rows_from dim k centroids) (rows_from dim rows values)
 
-  abbrev inner : Mode → Answer (List Placement)
+  abbrev inner : Mode → Answer (List (Option Nearest))
   inner mode = allowed mode (unplaced_of answer) answer
 
   -- no number but 9 is the inner answer's
@@ -295,15 +294,15 @@ module _ (rows dim k : ℕ) (values centroids : List Float) (n m : ℕ) where
   old_before = called_old (label_refusal rows dim k (length values) (length centroids) n m) unplaced_of answer
 
   -- The new way is accepted exactly when the old way is and nothing is unplaced, and gives the same.
-  pub strict_exactly : (found : List Placement) → (call Strict ≡ accepted found) ↔ ((call OldWay ≡ accepted found) × (unplaced_of found ≡ 0))
+  pub strict_exactly : (found : List (Option Nearest)) → (call Strict ≡ accepted found) ↔ ((call OldWay ≡ accepted found) × (unplaced_of found ≡ 0))
   unfolding label_call
   strict_exactly = called_strict (label_refusal rows dim k (length values) (length centroids) n m) unplaced_of answer
 
 -- ---- the answer and every cell follow from the call alone: any two results that a call may give are the same
-pub one_answer : {answer : Answer (List Placement)} {n : ℕ} {r r' : LabelAnswer} {cells cells' : List ℕ} → Gives answer n r cells → Gives answer n r' cells' → (r ≡ r') × (cells ≡ cells')
-one_answer {answer} {n} {r} {r'} g g' = (told_once r r' (g.result ∙ sym g'.result), g.labels ∙ sym g'.labels)
+pub one_answer : {answer : Answer (List (Option Nearest))} {n : ℕ} {r r' : Result ℕ Refusal} {cells cells' : List ℕ} → Gives answer n r cells → Gives answer n r' cells' → (r ≡ r') × (cells ≡ cells')
+one_answer {answer} {n} {r} {r'} g g' = (told_same (λ (u : ℕ). u) (λ u v e. e) r r' (g.result ∙ sym g'.result), g.labels ∙ sym g'.labels)
 
 -- and so are any two distances, where they were asked for
-pub one_distances : (answer : Answer (List Placement)) (m : ℕ) (distances distances' : List Float) → distances ≡ cells_of zero32 m distances_of answer
+pub one_distances : (answer : Answer (List (Option Nearest))) (m : ℕ) (distances distances' : List Float) → distances ≡ cells_of zero32 m distances_of answer
     → distances' ≡ cells_of zero32 m distances_of answer → distances ≡ distances'
 one_distances answer m distances distances' e e' = e ∙ sym e'

@@ -7,9 +7,11 @@ use native.Mathlib.Numerals.{add-one}
 use native.Mathlib.Omega.{arith}
 use lib.ListN.{length, get_or, take, drop}
 use lib.Ieee.{Float, nan}
-use Rattle.sums.specs.Rows.{Row, rows_from, row_at}
+use Rattle.sums.specs.Rows.{Row, row_at}
 use Rattle.sums.specs.Sums.{norm_of, dot_of}
+use Rattle.sums.specs.Table.{rows_of}
 use Rattle.sums.specs.Tables.{tabulate}
+use Rattle.sums.specs.declared.readings.Rows.{Rows}
 use Rattle.sums.proofs.Tables.{tab_add, tab_same, length_tab, get_d_tab}
 use Rattle.sums.proofs.Rows.{room, map_rows}
 use Rattle.labels.specs.declared.nearest.Nearest.{Nearest}
@@ -47,44 +49,45 @@ pub panel_scores : (row : Row) (rownorm : Float) (panels norms : List Float) →
 unfolding by_panels panel_score
 panel_scores row rownorm panels norms = refl
 
--- `n` clusters more, from `from` on, where their panel starts: their dots are the first of `dots`
-pub panel_more : (row : Row) (rownorm : Float) (panels norms dots : List Float) (from n at wide : ℕ) (best best' : Nearest)
-    → from % 16 ≡ 0 → n ≤ 16 → wide ≡ 16 * length row → at ≡ (from + 15) / 16 * wide
-    → dots ≡ dots_of row (take (at + wide - at) (drop at panels))
-    → best ≡ nearest_from 0 (tabulate (panel_score row rownorm panels norms) from) nothing_yet
-    → best' ≡ Scanned best rownorm dots norms from n
-    → best' ≡ nearest_from 0 (tabulate (panel_score row rownorm panels norms) (from + n)) nothing_yet
+-- `n` clusters more, those of panel g: their dots are the first of `dots`
+pub panel_more : (row : Row) (rownorm : Float) (panels norms dots : List Float) (g n wide : ℕ) (best best' : Nearest)
+    → n ≤ 16 → wide ≡ 16 * length row
+    → dots ≡ dots_of row (take (g * wide + wide - g * wide) (drop (g * wide) panels))
+    → best ≡ nearest_from 0 (tabulate (panel_score row rownorm panels norms) (16 * g)) nothing_yet
+    → best' ≡ Scanned best rownorm dots norms (16 * g) n
+    → best' ≡ nearest_from 0 (tabulate (panel_score row rownorm panels norms) (16 * g + n)) nothing_yet
 unfolding panel_score
-panel_more row rownorm panels norms dots from n at wide best best' z small w a d b e =
+panel_more row rownorm panels norms dots g n wide best best' small w d b e =
     let f = panel_score row rownorm panels norms in
-    let same : tabulate (λ j. score_from rownorm (get_or norms (from + j) nan) (get_or dots j nan)) n ≡ tabulate (λ j. f (from + j)) n
+    let same : tabulate (λ j. score_from rownorm (get_or norms (16 * g + j) nan) (get_or dots j nan)) n ≡ tabulate (λ j. f (16 * g + j)) n
     = tab_same _ _ n (λ j l.
     let lo : j < 16 = omega arith in
-    let q : (from + j) / 16 ≡ (from + 15) / 16 = omega (arith, z, lo) in
-    let r : (from + j) % 16 ≡ j = omega (arith, z, lo) in
-    rw (q, r, d, dots_at _ _ j lo, add-sub_cancel_left, a, w)) in
-    e ∙ rw (same, b) (sym (nearest_add f from n nothing_yet))
+    let q : (16 * g + j) / 16 ≡ g = omega arith in
+    let r : (16 * g + j) % 16 ≡ j = omega arith in
+    rw (q, r, d, dots_at _ _ j lo, add-sub_cancel_left, w)) in
+    e ∙ rw (same, b) (sym (nearest_add f (16 * g) n nothing_yet))
 
-pub norms_length : (dim k : ℕ) (centroids : List Float) → length (norms_of (rows_from dim k centroids)) ≡ k
-norms_length dim k centroids = ap length (map_rows norm_of dim k centroids) ∙ length_tab _ k
+pub norms_length : (rows : Rows) → length (norms_of (rows_of rows)) ≡ rows.count
+norms_length rows = ap length (map_rows norm_of rows.dim rows.count rows.values.now) ∙ length_tab _ rows.count
 
 -- the panels of the centroids give the centroids' scores
-module _ (row : Row) (centroids : List Float) (dim k n : ℕ) (size : length centroids ≡ k * dim) (wide : (k + 15) / 16 * (16 * dim) ≤ n) (long : length row ≡ dim) where
-  one_score : (c : ℕ) → c < k → panel_score row (norm_of row) (panels_of centroids dim k n) (norms_of (rows_from dim k centroids)) c ≡ score row (row_at centroids dim c)
+module _ (row : Row) (centroids : Rows) (n : ℕ) (wide : (centroids.count + 15) / 16 * (16 * centroids.dim) ≤ n) (long : length row ≡ centroids.dim) where
+  one_score : (c : ℕ) → c < centroids.count
+      → panel_score row (norm_of row) (panels_of centroids n) (norms_of (rows_of centroids)) c ≡ score row (row_at centroids.values.now centroids.dim c)
   unfolding panel_score score
   one_score c h =
       let e : 16 * (c / 16) + c % 16 ≡ c = omega arith in
       rw (
         long,
-        column_centroid centroids dim k n (c / 16) (c % 16) (omega arith) (omega (arith, room (c / 16) ((k + 15) / 16) (16 * dim) (omega arith))) size (rw e h),
+        column_centroid centroids n (c / 16) (c % 16) (omega arith) (omega (arith, room (c / 16) ((centroids.count + 15) / 16) (16 * centroids.dim) (omega arith))) (rw e h),
         e,
-        map_rows norm_of dim k centroids,
-        get_d_tab (λ i. norm_of (row_at centroids dim i)) k c nan h,
+        map_rows norm_of centroids.dim centroids.count centroids.values.now,
+        get_d_tab (λ i. norm_of (row_at centroids.values.now centroids.dim i)) centroids.count c nan h,
       )
 
-  pub by_panels_lem : by_panels row (norm_of row) (panels_of centroids dim k n) (norms_of (rows_from dim k centroids)) ≡ search (rows_from dim k centroids) row
+  pub by_panels_lem : by_panels row (norm_of row) (panels_of centroids n) (norms_of (rows_of centroids)) ≡ search (rows_of centroids) row
   unfolding search
   by_panels_lem =
-      panel_scores row (norm_of row) (panels_of centroids dim k n) (norms_of (rows_from dim k centroids))
+      panel_scores row (norm_of row) (panels_of centroids n) (norms_of (rows_of centroids))
       ∙ ap (λ (scores : List Float). nearest_from 0 scores nothing_yet)
-      (rw (norms_length dim k centroids) (tab_same _ _ k one_score ∙ sym (map_rows (score row) dim k centroids)))
+      (rw (norms_length centroids) (tab_same _ _ centroids.count one_score ∙ sym (map_rows (score row) centroids.dim centroids.count centroids.values.now)))

@@ -1,14 +1,15 @@
 -- What the functions inside say of their slices.
-use Rattle.std.specs.Prelude.{◌≡◌, List, map, ℕ, ◌+◌, ◌*◌, ◌/◌, ◌%◌, ◌≤◌, ◌<◌, length, get_or, take, Float}
+use Rattle.std.specs.Prelude.{◌≡◌, Option, List, map, ℕ, ◌+◌, ◌*◌, ◌/◌, ◌%◌, ◌≤◌, ◌<◌, length, get_or, take, Float}
 use Rattle.std.specs.Float.{nan}
-use Rattle.sums.specs.Rows.{Row, rows_from, row_at}
+use Rattle.sums.specs.Rows.{Row, row_at}
 use Rattle.sums.specs.Sums.{norm_of, dot_of}
 use Rattle.sums.specs.Tables.{tabulate}
 use Rattle.sums.specs.Cells.{Below}
 use Rattle.sums.specs.Refusals.{same_all}
+use Rattle.sums.specs.Table.{rows_of}
+use Rattle.sums.specs.declared.readings.Rows.{Rows}
 use Rattle.labels.specs.Label.{score_from, nearest_from, nothing_yet, placement, labels_of, distances_of, unplaced_of}
 use Rattle.labels.specs.declared.nearest.Nearest.{Nearest}
-use Rattle.labels.specs.declared.nearest.Placement.{Placement}
 use Rattle.labels.specs.declared.nearest.Tally.{Tally}
 use Rattle.labels.specs.Panels.{column_of}
 
@@ -26,20 +27,25 @@ by_panels row rownorm panels norms = let column : ℕ → Row = λ c. column_of 
     nearest_from 0 (tabulate (λ c. score_from rownorm (get_or norms c nan) (dot_of row (column c))) (length norms)) nothing_yet
 
 -- what the panels answer for row i
-abbrev pub placed_by : List Float → List Float → ℕ → List Float → List Float → ℕ → Placement
-placed_by values rownorms dim panels norms i = placement (by_panels (row_at values dim i) (get_or rownorms i nan) panels norms)
+abbrev pub placed_by : Rows → List Float → List Float → List Float → ℕ → Option Nearest
+placed_by rows rownorms panels norms i = placement (by_panels (row_at rows.values.now rows.dim i) (get_or rownorms i nan) panels norms)
 
 -- all rows have their answers in the cells; whether every label is the one that stood there, and how many rows are unplaced
-pub record Assigned (found : List Placement) (labels₀ labels : List ℕ) (distances : List Float) (r : Tally) : Type 0 where
+pub record Assigned (found : List (Option Nearest)) (labels₀ labels : List ℕ) (distances : List Float) (r : Tally) : Type 0 where
   pub labelled : labels ≡ labels_of found
   pub measured : distances ≡ distances_of found
   pub same : r.same ≡ same_all labels₀ labels
   pub counted : r.unplaced ≡ unplaced_of found
 
--- how long the slices of `assign_rows` are, with the rows' norms worked out
-abbrev pub Assignable : ℕ → ℕ → List Float → List Float → List Float → ℕ → ℕ → Type 0
-Assignable dim k values norms centroids labels distances = ((0 < dim) × ((dim ≤ 64) × (k ≤ 64)))
-    × ((length values ≡ labels * dim) × ((length centroids ≡ k * dim) × ((distances ≡ labels) × (norms ≡ norms_of (rows_from dim labels values)))))
+-- what `assign_rows` asks: few and short centroids, rows as long as they are, a label and a distance for each row, and the rows' norms worked out
+pub record Assignable (rows centroids : Rows) (rownorms : List Float) (labels distances : ℕ) : Type 0 where
+  pub some_dim : 0 < rows.dim
+  pub small_dim : rows.dim ≤ 64
+  pub few : centroids.count ≤ 64
+  pub alike : centroids.dim ≡ rows.dim
+  pub labelled : labels ≡ rows.count
+  pub measured : distances ≡ rows.count
+  pub normed : rownorms ≡ norms_of (rows_of rows)
 
 -- a pool of at most cap positions in front of `at`, `count` of them so far, with their distances
 abbrev pub Holds : List Float → List ℕ → ℕ → ℕ → Type 0

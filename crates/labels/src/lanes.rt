@@ -5,6 +5,8 @@ ghost use Rattle.std.specs.Float.Ieee.{add, mul};
 ghost use Rattle.sums.specs.Tables.{tabulate};
 ghost use Rattle.labels.specs.Panels.{dots_of, value_at, panels_of};
 
+use sums::readings::Rows;
+
 // acc with x times each of the sixteen values of panel from `at` on added.
 fn lane16(acc: &mut [f32; 16], x: f32, panel: &[f32], at: usize)
     requires { (length acc.old ≡ 16) × (at + 16 ≤ length panel.now) }
@@ -12,7 +14,7 @@ fn lane16(acc: &mut [f32; 16], x: f32, panel: &[f32], at: usize)
         ≡ tabulate (λ j. add binary32 (get_or acc.old j nan) (mul binary32 x (get_or panel.now (at + j) nan))) 16 }
 {
     for j in 0..16usize {
-        acc[j] = acc[j] + x * panel[at + j];
+        acc[j] += x * panel[at + j];
     }
 }
 
@@ -24,6 +26,7 @@ pub struct DotsPair {
 }
 
 // The panel is read once for both rows.
+#[tactic(auto, using(crate::proofs::Columns::parts_length))]
 pub fn dots16_pair(first: &[f32], second: &[f32], panel: &[f32]) -> DotsPair
     requires { (length second.now ≡ length first.now) × (16 * length first.now ≤ length panel.now) }
     ensures { (result.first ≡ dots_of first.now panel.now)
@@ -31,11 +34,9 @@ pub fn dots16_pair(first: &[f32], second: &[f32], panel: &[f32]) -> DotsPair
 {
     let mut a = [0.0f32; 16];
     let mut b = [0.0f32; 16];
-    let mut i = 0usize;
-    while i < first.len() {
+    for i in 0..first.len() {
         lane16(&mut a, first[i], panel, 16 * i);
         lane16(&mut b, second[i], panel, 16 * i);
-        i += 1;
     }
     DotsPair {
         first: a,
@@ -44,55 +45,46 @@ pub fn dots16_pair(first: &[f32], second: &[f32], panel: &[f32]) -> DotsPair
 }
 
 // Value d of centroid c, or +0.0 past the last centroid.
-fn value_at(centroids: &[f32], dim: usize, k: usize, c: usize, d: usize) -> f32
-    requires { (length centroids.now ≡ k * dim) × (d < dim) }
-    ensures { result ≡ value_at centroids.now dim k c d }
+fn value_at(centroids: Rows<'_>, c: usize, d: usize) -> f32
+    requires { d < centroids.dim }
+    ensures { result ≡ value_at centroids.entry c d }
 {
-    if c < k {
-        let at = c * dim + d;
-        return centroids[at];
+    if c < centroids.count {
+        return centroids.row(c)[d];
     }
     0.0f32
 }
 
 // One line of a panel: value d of sixteen centroids.
-fn fill_line(line: &mut [f32], centroids: &[f32], dim: usize, k: usize, first: usize, d: usize)
-    requires { (length line.old ≡ 16) × ((length centroids.now ≡ k * dim) × ((d < dim) × (first + 16 ≤ 4096))) }
-    ensures { line.new ≡ tabulate (λ j. value_at centroids.now dim k (first + j) d) 16 }
+#[tactic(auto, using(sums::proofs::Tables::fill_more))]
+fn fill_line(line: &mut [f32], centroids: Rows<'_>, first: usize, d: usize)
+    requires { (length line.old ≡ 16) × ((d < centroids.dim) × (first + 16 ≤ 4096)) }
+    ensures { line.new ≡ tabulate (λ j. value_at centroids.entry (first + j) d) 16 }
 {
-    let mut j = 0usize;
-    while j < line.len() {
-        line[j] = value_at(centroids, dim, k, first + j, d);
-        j += 1;
+    for (j, value) in line.iter_mut().enumerate() {
+        *value = value_at(centroids, first + j, d);
     }
 }
 
-// One panel: dim lines, of the centroids from `first` on.
-fn fill_panel(panel: &mut [f32], centroids: &[f32], dim: usize, k: usize, first: usize)
-    requires { (length panel.old ≡ 16 * dim) × ((length centroids.now ≡ k * dim) × (first + 16 ≤ 4096)) }
-    ensures { panel.new ≡ tabulate (λ p. value_at centroids.now dim k (first + p % 16) (p / 16)) (16 * dim) }
+// One panel: a line for each value of a centroid, of the centroids from `first` on.
+fn fill_panel(panel: &mut [f32], centroids: Rows<'_>, first: usize)
+    requires { (length panel.old ≡ 16 * centroids.dim) × (first + 16 ≤ 4096) }
+    ensures { panel.new ≡ tabulate (λ p. value_at centroids.entry (first + p % 16) (p / 16)) (16 * centroids.entry.dim) }
 {
-    let mut d = 0usize;
-    while d < dim {
+    for d in 0..centroids.dim {
         let at = 16 * d;
-        let end = at + 16;
-        fill_line(&mut panel[at..end], centroids, dim, k, first, d);
-        d += 1;
+        fill_line(&mut panel[at..at + 16], centroids, first, d);
     }
 }
 
 // As many whole panels as the slice has room for.
-pub fn fill_panels(centroids: &[f32], dim: usize, k: usize, count: usize, panels: &mut [f32])
-    requires dim_nonzero { (0 < dim) × ((dim ≤ 64) × ((count ≤ 4) × (length panels.old ≡ count * (16 * dim)))) }
-    requires centroids_len { length centroids.now ≡ k * dim }
-    ensures { panels.new ≡ panels_of centroids.now dim k (length panels.old) }
+pub fn fill_panels(centroids: Rows<'_>, count: usize, panels: &mut [f32])
+    requires { (0 < centroids.dim) × ((centroids.dim ≤ 64) × ((count ≤ 4) × (length panels.old ≡ count * (16 * centroids.dim)))) }
+    ensures { panels.new ≡ panels_of centroids.entry (length panels.old) }
 {
-    let wide = 16 * dim;
-    let mut g = 0usize;
-    while g < count {
+    let wide = 16 * centroids.dim;
+    for g in 0..count {
         let at = g * wide;
-        let end = at + wide;
-        fill_panel(&mut panels[at..end], centroids, dim, k, 16 * g);
-        g += 1;
+        fill_panel(&mut panels[at..at + wide], centroids, 16 * g);
     }
 }

@@ -1,5 +1,5 @@
-// Scores, labels, the pool of far rows, and the labelling call. There are as many rows as labels, norms or distances, each slice having a
-// cell for a row; dim and k are numbers.
+// Scores, labels, the pool of far rows, and the labelling call. Readings and centroids are handed on as `Rows`, and each slice of labels,
+// norms or distances has a cell for each of the rows.
 #![tactic(auto)]
 
 pub mod call;

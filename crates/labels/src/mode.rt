@@ -1,9 +1,12 @@
 // What a call does about rows that no score places (02 (iii)).
 ghost use Rattle.std.specs.Prelude.{◌≡◌};
-ghost use Rattle.labels.specs.Mode.{unplaced_refusal as unplaced_refusal_lem};
+ghost use Rattle.sums.specs.Refused.{number_in};
+ghost use Rattle.labels.specs.Mode.{unplaced_refusal};
+
+use sums::refusals::Refusal;
 
 // Every call names one of the two.
-#[derive(Clone, Copy)]
+#[derive(Clone, Copy, Debug, PartialEq, Eq)]
 pub enum Mode {
     // a call with an unplaced row is refused
     Strict,
@@ -11,17 +14,20 @@ pub enum Mode {
     OldWay,
 }
 
-// 9 where rows are unplaced and the call is strict, 0 for none.
-pub fn unplaced_refusal(mode: Mode, unplaced: u32) -> u32
-    ensures { result ≡ unplaced_refusal_lem mode unplaced }
-{
-    match mode {
-        Mode::Strict => {
-            if unplaced == 0 {
-                return 0;
+impl Mode {
+    // Unplaced rows refuse a call that is strict.
+    #[tactic(auto, unfolding(crate::specs::Mode::unplaced_refusal))]
+    pub fn check(self, unplaced: u32) -> Result<(), Refusal>
+        ensures { number_in result ≡ unplaced_refusal self unplaced }
+    {
+        match self {
+            Mode::OldWay => Ok(()),
+            Mode::Strict => {
+                if unplaced == 0 {
+                    return Ok(());
+                }
+                Err(Refusal::Unplaced)
             }
-            9
         }
-        Mode::OldWay => 0,
     }
 }

@@ -1,14 +1,14 @@
 // The nearest centroid of a row, and of many rows (the source's assign_points_for_update and compute_chunk_assignments_only).
-ghost use Rattle.std.specs.Prelude.{◌≡◌, ◌&&◌, [], ◌∷◌, ◌+◌, ◌-◌, ◌*◌, ◌/◌, ◌≤◌, ◌<◌, eqb, length, get_or, set};
-ghost use Rattle.sums.specs.Rows.{rows_from};
+ghost use Rattle.std.specs.Prelude.{◌≡◌, ◌&&◌, ◌==◌, [], ◌∷◌, ◌+◌, ◌-◌, ◌*◌, ◌/◌, ◌≤◌, ◌<◌, eqb, length, get_or, set};
+ghost use Rattle.sums.specs.Table.{rows_of};
 ghost use Rattle.sums.specs.Tables.{tabulate};
-ghost use Rattle.sums.specs.Sums.{infinity as infinity_lem};
 ghost use Rattle.labels.specs.Label.{score_from, better as better_lem, placement, nearests};
 ghost use Rattle.labels.specs.Label.{label_in as label_in_lem, distance_in as distance_in_lem, unplaced_of};
 ghost use Rattle.labels.specs.Inside.{norms_of, scanned, by_panels, placed_by, Assigned, Assignable};
 
 use crate::lanes;
-use sums::{numbers, rooms};
+use sums::readings::Rows;
+use sums::rooms;
 
 // A cluster, and the score of a row against it.
 #[derive(Clone, Copy)]
@@ -17,15 +17,8 @@ pub struct Nearest {
     pub distance: f32,
 }
 
-// What a row's search answers: its nearest cluster, and the score against it; or that no score is below infinity.
-#[derive(Clone, Copy)]
-pub enum Placement {
-    Placed { label: u16, distance: f32 },
-    Unplaced,
-}
-
 // Of the rows so far: whether every label is the one that stood there before, and how many rows are unplaced.
-#[derive(Clone, Copy)]
+#[derive(Clone, Copy, Debug, PartialEq, Eq)]
 pub struct Tally {
     pub same: bool,
     pub unplaced: usize,
@@ -42,19 +35,15 @@ fn score(rownorm: f32, norm: f32, dot: f32) -> f32
     ensures { result ≡ score_from rownorm norm dot }
 {
     let raw = (rownorm + norm) - (2.0f32 * dot);
+    // Kept: `max` would make 0 of a NaN, which `score_from` keeps.
     if raw < 0.0f32 {
         return 0.0f32;
     }
     raw
 }
 
-fn infinity() -> f32
-    ensures { result ≡ infinity_lem }
-{
-    f32::from_bits(0x7f80_0000)
-}
-
 // best, or the cluster where its score is below.
+#[tactic(auto, unfolding(crate::specs::Label::better))]
 fn better(best: Nearest, cluster: u16, s: f32) -> Nearest
     ensures { result ≡ better_lem cluster s best }
 {
@@ -68,6 +57,7 @@ fn better(best: Nearest, cluster: u16, s: f32) -> Nearest
 }
 
 // Two rows' searches side by side, neither waiting for the other.
+#[tactic(auto, using(crate::proofs::Searches::from_more), unfolding(crate::specs::Label::nearest_from))]
 fn scan16_pair(
     best: NearestPair,
     rownorm: f32,
@@ -85,12 +75,10 @@ fn scan16_pair(
     let second = dots.second;
     let mut a = best.first;
     let mut b = best.second;
-    let mut j = 0usize;
-    while j < count {
+    for j in 0..count {
         let c = from + j;
         a = better(a, c as u16, score(rownorm, norms[c], first[j]));
         b = better(b, c as u16, score(secondnorm, norms[c], second[j]));
-        j += 1;
     }
     NearestPair {
         first: a,
@@ -116,91 +104,80 @@ fn find_nearest_pair(
     let wide = 16 * row.len();
     let start = Nearest {
         label: 0,
-        distance: infinity(),
+        distance: f32::INFINITY,
     };
     let mut best = NearestPair {
         first: start,
         second: start,
     };
-    let mut from = 0usize;
-    let mut at = 0usize;
-    while from < k {
-        let count = numbers::least(k - from, 16);
-        let end = at + wide;
-        let dots = lanes::dots16_pair(row, second, &panels[at..end]);
+    for g in 0..(k + 15) / 16 {
+        let at = g * wide;
+        let from = 16 * g;
+        let count = (k - from).min(16);
+        let dots = lanes::dots16_pair(row, second, &panels[at..at + wide]);
         best = scan16_pair(best, rownorm, secondnorm, dots, norms, from, count);
-        from += count;
-        at = end;
     }
     best
 }
 
-// The norms of rows of dim values, one after the other.
-pub fn compute_norms(values: &[f32], dim: usize, norms: &mut [f32])
-    requires { length values.now ≡ length norms.old * dim }
-    ensures { norms.new ≡ norms_of (rows_from dim (length norms.old) values.now) }
+// Each row's norm.
+pub fn compute_norms(rows: Rows<'_>, norms: &mut [f32])
+    requires { length norms.old ≡ rows.count }
+    ensures { norms.new ≡ norms_of (rows_of rows.entry) }
 {
-    let mut i = 0usize;
-    while i < norms.len() {
-        let at = i * dim;
-        let end = at + dim;
-        norms[i] = sums::math::norm(&values[at..end]);
-        i += 1;
+    for (i, norm) in norms.iter_mut().enumerate() {
+        *norm = sums::math::norm(rows.row(i));
     }
 }
 
 // The answer of a search that has ended.
-fn placement_of(best: Nearest) -> Placement
+fn placement_of(best: Nearest) -> Option<Nearest>
     ensures { result ≡ placement best }
 {
-    if best.distance < infinity() {
-        return Placement::Placed {
-            label: best.label,
-            distance: best.distance,
-        };
+    if best.distance < f32::INFINITY {
+        Some(best)
+    } else {
+        None
     }
-    Placement::Unplaced
 }
 
-fn label_in(found: Placement) -> u16
+fn label_in(found: Option<Nearest>) -> u16
     ensures { result ≡ label_in_lem found }
 {
     match found {
-        Placement::Placed { label, distance } => label,
-        Placement::Unplaced => 0,
+        Some(best) => best.label,
+        None => 0,
     }
 }
 
-fn distance_in(found: Placement) -> f32
+fn distance_in(found: Option<Nearest>) -> f32
     ensures { result ≡ distance_in_lem found }
 {
     match found {
-        Placement::Placed { label, distance } => distance,
-        Placement::Unplaced => infinity(),
+        Some(best) => best.distance,
+        None => f32::INFINITY,
     }
 }
 
 // 1 for an unplaced row, and 0 for any other.
-fn unplaced_in(found: Placement) -> usize
+#[tactic(auto, unfolding(crate::specs::Label::unplaced_of))]
+fn unplaced_in(found: Option<Nearest>) -> usize
     ensures { (result ≡ unplaced_of (found ∷ [])) × (result ≤ 1) }
 {
     match found {
-        Placement::Placed { label, distance } => 0,
-        Placement::Unplaced => 1,
+        Some(_) => 0,
+        None => 1,
     }
-}
-
-fn still(same: bool, old: u16, new: u16) -> bool
-    ensures { result ≡ (same && eqb old new) }
-{
-    if old == new {
-        return same;
-    }
-    false
 }
 
 // Row i's answer put to its cells, and to the tally of the rows before it.
-fn put(labels: &mut [u16], distances: &mut [f32], i: usize, found: Placement, tally: Tally) -> Tally
+fn put(
+    labels: &mut [u16],
+    distances: &mut [f32],
+    i: usize,
+    found: Option<Nearest>,
+    tally: Tally,
+) -> Tally
     requires { (i < length labels.old) × ((i < length distances.old) × (tally.unplaced ≤ i)) }
     ensures labels_after { (labels.new ≡ set labels.old i (label_in_lem found))
         × (distances.new ≡ set distances.old i (distance_in_lem found)) }
@@ -208,7 +185,7 @@ fn put(labels: &mut [u16], distances: &mut [f32], i: usize, found: Placement, ta
         × ((result.unplaced ≡ tally.unplaced + unplaced_of (found ∷ [])) × (result.unplaced ≤ i + 1)) }
 {
     let label = label_in(found);
-    let same = still(tally.same, labels[i], label);
+    let same = tally.same && labels[i] == label;
     labels[i] = label;
     distances[i] = distance_in(found);
     Tally {
@@ -218,73 +195,67 @@ fn put(labels: &mut [u16], distances: &mut [f32], i: usize, found: Placement, ta
 }
 
 // Labels and distances of the rows, the centroids being laid out in panels. Two rows go at a time, and an odd last one with itself.
+#[tactic(auto, using(crate::proofs::Columns::row_long))]
 fn assign_by_panels(
-    values: &[f32],
+    rows: Rows<'_>,
     rownorms: &[f32],
-    dim: usize,
     panels: &[f32],
     norms: &[f32],
     labels: &mut [u16],
     distances: &mut [f32],
 ) -> Tally
-    requires values_len { (length values.now ≡ length labels.old * dim)
-        × ((length distances.old ≡ length labels.old) × (length rownorms.now ≡ length labels.old)) }
-    requires dim_bound { (dim ≤ 64) × ((length norms.now ≤ 64) × ((length norms.now + 15) / 16 * (16 * dim) ≤ length panels.now)) }
-    ensures { let found = placed_by values.now rownorms.now dim panels.now norms.now in
+    requires labels_len { (length labels.old ≡ rows.count)
+        × ((length distances.old ≡ rows.count) × (length rownorms.now ≡ rows.count)) }
+    requires dim_bound { (rows.dim ≤ 64) × ((length norms.now ≤ 64) × ((length norms.now + 15) / 16 * (16 * rows.dim) ≤ length panels.now)) }
+    ensures { let found = placed_by rows.entry rownorms.now panels.now norms.now in
         Assigned (tabulate found (length labels.old)) labels.old labels.new distances.new result }
 {
     let mut tally = Tally {
         same: true,
         unplaced: 0,
     };
-    let mut i = 0usize;
-    while i + 1 < labels.len() {
-        let at = i * dim;
+    for pair in 0..labels.len() / 2 {
+        let i = 2 * pair;
         let j = i + 1;
-        let mid = at + dim;
-        let end = mid + dim;
-        let row = &values[at..mid];
-        let second = &values[mid..end];
+        let row = rows.row(i);
+        let second = rows.row(j);
         let found = find_nearest_pair(row, second, rownorms[i], rownorms[j], panels, norms);
         tally = put(labels, distances, i, placement_of(found.first), tally);
         tally = put(labels, distances, j, placement_of(found.second), tally);
-        i = j + 1;
     }
-    if i < labels.len() {
-        let at = i * dim;
-        let end = at + dim;
-        let row = &values[at..end];
+    if labels.len() % 2 == 1 {
+        let i = labels.len() - 1;
+        let row = rows.row(i);
         let found = find_nearest_pair(row, row, rownorms[i], rownorms[i], panels, norms);
         return put(labels, distances, i, placement_of(found.first), tally);
     }
     tally
 }
 
-// Labels and distances of the rows; `panels` is room for the centroids' panels.
-fn assign_in(
-    values: &[f32],
+// Labels and distances of the rows, with room for N floats of the centroids' panels.
+#[tactic(auto, using(crate::proofs::Searches::norms_length))]
+fn assign_with<const N: usize>(
+    rows: Rows<'_>,
     rownorms: &[f32],
-    dim: usize,
-    centroids: &[f32],
-    k: usize,
-    panels: &mut [f32],
+    centroids: Rows<'_>,
     labels: &mut [u16],
     distances: &mut [f32],
 ) -> Tally
-    requires assignable { Assignable dim k values.now rownorms.now centroids.now (length labels.old) (length distances.old) }
-    requires panels_len { length panels.old ≡ (k + 15) / 16 * (16 * dim) }
-    ensures { let rows = rows_from dim (length labels.old) values.now in
-        Assigned (nearests (rows_from dim k centroids.now) rows) labels.old labels.new distances.new result }
+    requires assignable { Assignable rows centroids rownorms.now (length labels.old) (length distances.old) }
+    requires panels_fit { ((centroids.count + 15) / 16 * (16 * rows.dim) ≤ N) × (N ≤ 4096) }
+    ensures { Assigned (nearests (rows_of centroids.entry) (rows_of rows.entry)) labels.old labels.new distances.new result }
 {
-    let mut lengths = [0.0f32; 64];
+    let k = centroids.count;
     let count = (k + 15) / 16;
-    lanes::fill_panels(centroids, dim, k, count, panels);
-    compute_norms(centroids, dim, &mut lengths[..k]);
+    let cells = count * (16 * rows.dim);
+    let mut panels = rooms::room::<f32, N>(0.0);
+    lanes::fill_panels(centroids, count, &mut panels[..cells]);
+    let mut lengths = [0.0f32; 64];
+    compute_norms(centroids, &mut lengths[..k]);
     assign_by_panels(
-        values,
+        rows,
         rownorms,
-        dim,
-        panels,
+        &panels[..cells],
         &lengths[..k],
         labels,
         distances,
@@ -293,41 +264,19 @@ fn assign_in(
 
 // Labels and distances of the rows, and their tally. Few and short centroids get little room, since the room is cleared in every call.
 pub fn assign_rows(
-    values: &[f32],
+    rows: Rows<'_>,
     rownorms: &[f32],
-    dim: usize,
-    centroids: &[f32],
-    k: usize,
+    centroids: Rows<'_>,
     labels: &mut [u16],
     distances: &mut [f32],
 ) -> Tally
-    requires { Assignable dim k values.now rownorms.now centroids.now (length labels.old) (length distances.old) }
-    ensures { let rows = rows_from dim (length labels.old) values.now in
-        Assigned (nearests (rows_from dim k centroids.now) rows) labels.old labels.new distances.new result }
+    requires { Assignable rows centroids rownorms.now (length labels.old) (length distances.old) }
+    ensures { Assigned (nearests (rows_of centroids.entry) (rows_of rows.entry)) labels.old labels.new distances.new result }
 {
-    let cells = (k + 15) / 16 * (16 * dim);
+    let cells = (centroids.count + 15) / 16 * (16 * rows.dim);
     if cells <= 512 {
-        let mut little = [0.0f32; 512];
-        return assign_in(
-            values,
-            rownorms,
-            dim,
-            centroids,
-            k,
-            &mut little[..cells],
-            labels,
-            distances,
-        );
+        assign_with::<512>(rows, rownorms, centroids, labels, distances)
+    } else {
+        assign_with::<4096>(rows, rownorms, centroids, labels, distances)
     }
-    let mut room = rooms::row_room();
-    assign_in(
-        values,
-        rownorms,
-        dim,
-        centroids,
-        k,
-        &mut room[..cells],
-        labels,
-        distances,
-    )
 }

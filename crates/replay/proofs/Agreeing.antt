@@ -2,13 +2,15 @@
 use Prim.Native.Nat.{ℕ, ◌+◌, ◌*◌, ◌/◌, ◌%◌, ◌≤◌, ◌<◌}
 use mathlib.Core.Path.{◌≡◌}
 use mathlib.Core.Bool.{Bool, true, cond, ◌&&◌}
-use mathlib.Core.List.{List, [], ◌∷◌, map, flatten, append-nil}
+use mathlib.Core.List.{List, [], ◌∷◌, ◌++◌, map, flatten, append-nil}
+use Rattle.std.proofs.Common.{length-append, take_at, drop_at}
+use Rattle.sums.specs.Rows.{rows_from}
 use native.Mathlib.Omega.{arith}
 use native.Mathlib.Numerals.{add-one}
 use borrow.Author.Tests.{eqb-true}
 use lib.Dec.{eqb}
-use lib.ListN.{length, get_or, take, drop, replicate, drop_of_length-le}
-use lib.Seq.{drop-cons, take_all, length-take-le}
+use lib.ListN.{length, take, replicate, drop_of_length-le}
+use lib.Seq.{take_all, length-take-le}
 use lib.Ieee.{Float, binary32, binary64, to_bits}
 use Rattle.sums.specs.Sums.{zero32}
 use Rattle.sums.specs.Refusals.{Answer, same_all, cells_of, blank_cell}
@@ -66,14 +68,22 @@ all_fourfold draws values labels centroids e =
     let one = both (whole_words draws) (whole_words values) two.0 in
     record { draws_are = fourfold draws one.0; values_are = fourfold values one.1; labels_are = fourfold labels two.1; centroids_are = fourfold centroids three.1 }
 
--- ---- records counted
-pub count_on : (rs : List (List ℕ)) (i : ℕ) → i < length rs → agreeing (drop i rs) ≡ cond (agrees (get_or rs i [])) 1 0 + agreeing (drop (i + 1) rs)
-unfolding agreeing
-count_on rs i h = rw (add-one i, drop-cons rs i [] h)
+-- ---- whole records counted
+abbrev pub agreeing_in : List ℕ → ℕ
+agreeing_in s = agreeing (rows_from 384 (length s / 384) s)
 
-pub count_end : (rs : List (List ℕ)) (i : ℕ) → length rs ≤ i → agreeing (drop i rs) ≡ 0
-unfolding agreeing
-count_end rs i h = rw (drop_of_length-le rs h)
+-- the first record and what comes after it
+module _ (front rest s : List ℕ) (e : s ≡ front ++ rest) (l : length front ≡ 384) where
+  pub one_more : length s / 384 ≡ length rest / 384 + 1
+  one_more = let h : length s ≡ length front + length rest = rw e (length-append front rest) in omega (arith, h, l)
+
+  pub count_on : agreeing_in s ≡ cond (agrees front) 1 0 + agreeing_in rest
+  unfolding agreeing rows_from
+  count_on = rw (one_more, add-one (length rest / 384), e, take_at front rest 384 l, drop_at front rest 384 l)
+
+pub count_end : (s : List ℕ) → length s < 384 → agreeing_in s ≡ 0
+unfolding agreeing rows_from
+count_end s h = let e : length s / 384 ≡ 0 = omega (arith, h) in rw e
 
 -- ---- the room for n bytes' words
 pub room : {A : Type 0} (v : A) (n : ℕ) → n ≤ 320 → length (take (n / 4) (replicate 80 v)) ≡ n / 4

@@ -8,49 +8,49 @@ ghost use Rattle.batch.specs.Batch.{listing_of};
 ghost use Rattle.replay.specs.Replay.{label_agrees as label_agrees_lem, closure_agrees as closure_agrees_lem};
 ghost use Rattle.replay.specs.Replay.{kmeans_agrees as kmeans_agrees_lem, kmeans_agrees_of};
 
+use crate::head::Head;
 use crate::same;
-use sums::{bits, checks, numbers};
+use labels::mode::Mode;
+use sums::bits;
 
-fn bytes_agree(number: u32, res: &[u8], head: &[u8], stored: &[u8]) -> bool
-    requires { length head.now ≡ 64 }
-    ensures { result ≡ (eqb number (u32_at head.now 4) && same_all res.now stored.now) }
+fn bytes_agree(number: u32, res: &[u8], head: Head<'_>, stored: &[u8]) -> bool
+    ensures { result ≡ (eqb number (u32_at head.entry.bytes.now 4) && same_all res.now stored.now) }
 {
-    let number_same = same::numbers(number, words::u32_at(head, 4));
-    checks::both(number_same, same::bytes(res, stored))
+    number == head.word(4) && same::bytes(res, stored)
 }
 
 // A stored case of a label.
 pub fn label_agrees(
-    head: &[u8],
+    head: Head<'_>,
     row: &[u8],
     centroids: &[u8],
     stored: &[u8],
     res: &mut [u8],
 ) -> bool
-    requires { (length head.now ≡ 64) × (length res.old ≡ length stored.now) }
-    ensures { result ≡ label_agrees_lem head.now row.now centroids.now stored.now }
+    requires { length res.old ≡ length stored.now }
+    ensures { result ≡ label_agrees_lem head.entry.bytes.now row.now centroids.now stored.now }
 {
-    let dim = words::u32_at(head, 24);
-    let k = words::u32_at(head, 28);
-    let number = exports::bytes::families_label(dim, k, row, centroids, res);
+    let dim = head.word(24);
+    let k = head.word(28);
+    let number = exports::bytes::families_label(Mode::Strict, dim, k, row, centroids, res);
     bytes_agree(number, res, head, stored)
 }
 
 // A stored case of closure.
 pub fn closure_agrees(
-    head: &[u8],
+    head: Head<'_>,
     vector: &[u8],
     centroids: &[u8],
     stored: &[u8],
     res: &mut [u8],
 ) -> bool
-    requires { (length head.now ≡ 64) × (length res.old ≡ length stored.now) }
-    ensures { result ≡ closure_agrees_lem head.now vector.now centroids.now stored.now }
+    requires { length res.old ≡ length stored.now }
+    ensures { result ≡ closure_agrees_lem head.entry.bytes.now vector.now centroids.now stored.now }
 {
-    let dim = words::u32_at(head, 24);
-    let count = words::u32_at(head, 28);
-    let replicas = (words::u32_at(head, 32) % 65536) as u16;
-    let epsilon = sums::bits::float_of(words::u32_at(head, 36));
+    let dim = head.word(24);
+    let count = head.word(28);
+    let replicas = (head.word(32) % 65536) as u16;
+    let epsilon = bits::float_of(head.word(36));
     let number = exports::bytes::families_closure(
         dim, count, replicas, epsilon, vector, centroids, res,
     );
@@ -58,12 +58,11 @@ pub fn closure_agrees(
 }
 
 // Word 14 counts least.
-fn stored_objective(head: &[u8]) -> u64
-    requires { length head.now ≡ 64 }
-    ensures { result ≡ u32_at head.now 56 + 4294967296 * u32_at head.now 60 }
+fn stored_objective(head: Head<'_>) -> u64
+    ensures { result ≡ u32_at head.entry.bytes.now 56 + 4294967296 * u32_at head.entry.bytes.now 60 }
 {
-    let low = numbers::long(words::u32_at(head, 56));
-    let high = numbers::long(words::u32_at(head, 60));
+    let low = u64::from(head.word(56));
+    let high = u64::from(head.word(60));
     low + 4294967296 * high
 }
 
@@ -74,27 +73,26 @@ fn kmeans_told(
     objective: f64,
     l: &[u16],
     c: &[f32],
-    head: &[u8],
+    head: Head<'_>,
     labels: &[u8],
     centroids: &[u8],
 ) -> bool
-    requires { (length head.now ≡ 64) × ((length labels.now ≡ length l.now * 4) × (length centroids.now ≡ length c.now * 4)) }
-    ensures { result ≡ (eqb number (u32_at head.now 4) && eqb restart (u32_at head.now 52)
-        && eqb (to_bits binary64 objective) (u32_at head.now 56 + 4294967296 * u32_at head.now 60)
+    requires { (length labels.now ≡ length l.now * 4) × (length centroids.now ≡ length c.now * 4) }
+    ensures { result ≡ (eqb number (u32_at head.entry.bytes.now 4) && eqb restart (u32_at head.entry.bytes.now 52)
+        && eqb (to_bits binary64 objective) (u32_at head.entry.bytes.now 56 + 4294967296 * u32_at head.entry.bytes.now 60)
         && same_all l.now (words_from (length l.now) labels.now)
         && same_all (map (to_bits binary32) c.now) (words_from (length c.now) centroids.now)) }
 {
-    let number_same = same::numbers(number, words::u32_at(head, 4));
-    let a = checks::both(number_same, same::numbers(restart, words::u32_at(head, 52)));
-    let found = bits::double_bits_of(objective);
-    let b = checks::both(a, same::long_numbers(found, stored_objective(head)));
-    let e = checks::both(b, same::cells(l, labels));
-    checks::both(e, same::floats(c, centroids))
+    number == head.word(4)
+        && restart == head.word(52)
+        && bits::double_bits_of(objective) == stored_objective(head)
+        && same::words(l, labels)
+        && same::words(c, centroids)
 }
 
 // The case with room for what is read and for what k-means is lent.
 fn kmeans_inside(
-    head: &[u8],
+    head: Head<'_>,
     draws: &[u8],
     values: &[u8],
     labels: &[u8],
@@ -105,25 +103,26 @@ fn kmeans_inside(
     c: &mut [f32],
     training: &mut [f32],
 ) -> bool
-    requires head_len { (length head.now ≡ 64) × ((length draws.now ≡ length d.old * 4) × (length values.now ≡ length v.old * 4)) }
+    requires draws_len { (length draws.now ≡ length d.old * 4) × (length values.now ≡ length v.old * 4) }
     requires labels_len { (length labels.now ≡ length l.old * 4) × ((length centroids.now ≡ length c.old * 4)
         × (length training.old ≡ length v.old)) }
     ensures { result ≡ kmeans_agrees_of (length d.old) (length v.old) (length l.old) (length c.old)
-        head.now draws.now values.now labels.now centroids.now }
+        head.entry.bytes.now draws.now values.now labels.now centroids.now }
 {
-    words::words_of(draws, d);
-    words::floats_of(values, v);
+    words::read_all(draws, d);
+    words::read_all(values, v);
     let mut objective = 0.0f64;
     let mut restart = 0u32;
     let mut unplaced = 0u32;
     let number = exports::slices::families_kmeans(
-        words::u32_at(head, 24),
-        words::u32_at(head, 28),
-        words::u32_at(head, 32),
-        words::u32_at(head, 36),
-        words::u32_at(head, 40),
-        words::u32_at(head, 44),
-        words::u32_at(head, 48),
+        Mode::Strict,
+        head.word(24),
+        head.word(28),
+        head.word(32),
+        head.word(36),
+        head.word(40),
+        head.word(44),
+        head.word(48),
         0,
         d,
         v,
@@ -137,31 +136,25 @@ fn kmeans_inside(
     kmeans_told(number, restart, objective, l, c, head, labels, centroids)
 }
 
-fn whole_words(n: usize) -> bool
-    ensures { result ≡ eqb (n % 4) 0 }
-{
-    n % 4 == 0
-}
-
+// Whether each part is a whole number of words.
 fn all_whole(draws: usize, values: usize, labels: usize, centroids: usize) -> bool
     ensures { result ≡ (eqb (draws % 4) 0 && eqb (values % 4) 0 && eqb (labels % 4) 0 && eqb (centroids % 4) 0) }
 {
-    let a = checks::both(whole_words(draws), whole_words(values));
-    let b = checks::both(a, whole_words(labels));
-    checks::both(b, whole_words(centroids))
+    draws % 4 == 0 && values % 4 == 0 && labels % 4 == 0 && centroids % 4 == 0
 }
 
 // A stored case of k-means: it runs and gives what is stored.
+#[tactic(auto, using(crate::proofs::Agreeing::room))]
 pub fn kmeans_agrees(
-    head: &[u8],
+    head: Head<'_>,
     draws: &[u8],
     values: &[u8],
     labels: &[u8],
     centroids: &[u8],
 ) -> bool
-    requires head_len { (length head.now ≡ 64) × ((length draws.now ≤ 320) × (length values.now ≤ 320)) }
+    requires draws_len_bound { (length draws.now ≤ 320) × (length values.now ≤ 320) }
     requires labels_len_bound { (length labels.now ≤ 320) × (length centroids.now ≤ 320) }
-    ensures { result ≡ kmeans_agrees_lem head.now draws.now values.now labels.now centroids.now }
+    ensures { result ≡ kmeans_agrees_lem head.entry.bytes.now draws.now values.now labels.now centroids.now }
 {
     if !all_whole(draws.len(), values.len(), labels.len(), centroids.len()) {
         return false;

@@ -1,5 +1,5 @@
 -- From what the code finds to the writer's and the reader's whole answers. Assumes nothing.
-use Prim.Native.Nat.{ℕ, zero, suc, ◌+◌, ◌-◌, ◌*◌, ◌≤◌, ◌<◌}
+use Prim.Native.Nat.{ℕ, ◌+◌, ◌-◌, ◌*◌, ◌≤◌, ◌<◌}
 use mathlib.Core.Path.{◌≡◌, refl, sym, ap, subst, ◌∙◌}
 use mathlib.Core.Bool.{Bool, true, false, ◌&&◌, cond, false≢true}
 use mathlib.Core.List.{List, [], ◌∷◌}
@@ -14,21 +14,25 @@ use Rattle.sums.proofs.Refusing.{both, same_is, same_cons, passed, padded_all, p
 use Rattle.words.specs.Bytes.{u32_at, words_from, halves_from}
 use Rattle.results.specs.Grouping.{Stored, numbers_fit, cells_lent, content_fits, sound}
 use Rattle.results.specs.Files.{file_length, written, stored_at, stored_in, is_result, reads}
-use Rattle.results.specs.Calls.{write_refusal, write_call, Writes, lent_to, read_call, told, figures, Reads}
+use Rattle.results.specs.Calls.{write_refusal, write_call, Writes, lent_to, read_call, figures, Reads}
 use Rattle.results.specs.Inside.{laid_out, holds_rows}
-use Rattle.results.specs.declared.writer.WriteAnswer.TheVariants.{Written, Refused as WriteRefused}
-use Rattle.results.specs.declared.reader.ReadAnswer.TheVariants.{Read, Refused}
+use Rattle.std.proofs.Common.{Ok, Err}
+use Rattle.sums.specs.declared.refusals.Refusal.{Refusal}
+use Rattle.sums.specs.declared.refusals.Refusal.TheVariants.{Length, NoResult}
+use Rattle.sums.specs.Refused.{number_of}
+use Rattle.sums.proofs.Told.{unless_number}
 use Rattle.results.proofs.Sounds.{Numbers, Lengths, numbers_is, content_is, sound_is, sound_content, sound_numbers}
 use Rattle.results.proofs.Files.{same_refl, written_length, tail_0, tail_4, tail_8, at_lengths, at_content, content_holds, written_again}
 use Rattle.words.proofs.Blocks.{halves_length}
 
 -- ---- the writer
 module _ (t : Stored) (out : ℕ) where
-  pub write_refused : (number : ℕ) (bytes : List ℕ) → number ≡ write_refusal t.rows t.dim t.groups (length t.order) (length t.ends) (length t.means) out → (number ≡ 0 → ⊥)
-      → bytes ≡ replicate out 0 → Writes (write_call t out) out (WriteRefused number) bytes
-  unfolding write_call unless on_accepted cells_of
-  write_refused zero bytes e h b = absurd (h refl)
-  write_refused (suc number) bytes e h b = record { result = rw (← e); bytes = b ∙ rw (← e) (sym (padded_none 0 out)) }
+  pub write_refused : (r : Refusal) (bytes : List ℕ) → number_of r ≡ write_refusal t.rows t.dim t.groups (length t.order) (length t.ends) (length t.means) out
+      → bytes ≡ replicate out 0 → Writes (write_call t out) out (Err r) bytes
+  unfolding write_call on_accepted cells_of
+  write_refused r bytes e b =
+      let u = unless_number r (cond (sound t) (accepted (written t)) (refused 10)) in
+      record { result = rw (← e, u); bytes = b ∙ rw (← e, u) (sym (padded_none 0 out)) }
 
   -- what it is to pass 1 and 2
   pub record Fitting : Type 0 where
@@ -50,11 +54,11 @@ module _ (t : Stored) (out : ℕ) where
     sound_by : (b : Bool) → content_fits t ≡ b → sound t ≡ b
     sound_by b h = sound_content t fitting.numbers fitting.lengths ∙ h
 
-    pub write_bad : (bytes : List ℕ) → content_fits t ≡ false → bytes ≡ replicate out 0 → Writes (write_call t out) out (WriteRefused 10) bytes
+    pub write_bad : (bytes : List ℕ) → content_fits t ≡ false → bytes ≡ replicate out 0 → Writes (write_call t out) out (Err NoResult) bytes
     unfolding write_call unless on_accepted cells_of
     write_bad bytes h b = record { result = rw (e, sound_by false h); bytes = b ∙ rw (e, sound_by false h) (sym (padded_none 0 out)) }
 
-    pub write_good : (bytes : List ℕ) → content_fits t ≡ true → bytes ≡ written t → Writes (write_call t out) out Written bytes
+    pub write_good : (bytes : List ℕ) → content_fits t ≡ true → bytes ≡ written t → Writes (write_call t out) out (Ok (tt {0})) bytes
     unfolding write_call unless on_accepted cells_of
     write_good bytes h b =
         let c = content_is t h in
@@ -140,13 +144,13 @@ module _ (file : List ℕ) (rows dim groups : ℕ) (e12 : rows ≡ u32_at file (
       go false e = not_true_false (is_result file) (λ r. false≢true (sym e ∙ (found r).holds))
 
   -- ---- the reader's answers
-  pub numbers_read : is_result file ≡ true → told (Read rows dim groups) ≡ on_accepted figures (reads file)
+  pub numbers_read : is_result file ≡ true → accepted (rows, dim, groups) ≡ on_accepted figures (reads file)
   unfolding reads on_accepted stored_at
   numbers_read e = rw (e, stored_is)
 
   module _ (lent order ends means : List ℕ) (no ne nm : ℕ) where
     pub read_short : is_result file ≡ true → same_all lent (cells_lent rows dim) ≡ false → order ≡ replicate no blank_cell → ends ≡ replicate ne blank_cell → means ≡ replicate nm 0
-        → Reads (read_call file lent) no ne nm (Refused 2) order ends means
+        → Reads (read_call file lent) no ne nm (Err Length) order ends means
     unfolding read_call reads lent_to on_accepted cells_of stored_at
     read_short e l o d m =
         record {
@@ -159,7 +163,7 @@ module _ (file : List ℕ) (rows dim groups : ℕ) (e12 : rows ≡ u32_at file (
     pub read_good : is_result file ≡ true → same_all lent (cells_lent rows dim) ≡ true → no ≡ rows → ne ≡ rows → nm ≡ rows * dim
         → order ≡ halves_from rows file → ends ≡ padded blank_cell rows (halves_from groups (drop (rows * 2) file))
         → means ≡ padded 0 (rows * dim) (words_from (groups * dim) (drop (rows * 2 + groups * 2) file))
-        → Reads (read_call file lent) no ne nm (Read rows dim groups) order ends means
+        → Reads (read_call file lent) no ne nm (Ok (record { rows = rows; dim = dim; groups = groups })) order ends means
     unfolding read_call reads lent_to on_accepted cells_of stored_at
     read_good e l p q r o d m =
         record {
@@ -170,7 +174,7 @@ module _ (file : List ℕ) (rows dim groups : ℕ) (e12 : rows ≡ u32_at file (
         }
 
 -- ---- what a caller has of the numbers that it was told
-pub numbers_refused : (file : List ℕ) → false ≡ is_result file → told (Refused 10) ≡ on_accepted figures (reads file)
+pub numbers_refused : (file : List ℕ) → false ≡ is_result file → refused 10 ≡ on_accepted figures (reads file)
 unfolding reads on_accepted
 numbers_refused file e = rw (← e)
 
@@ -180,23 +184,23 @@ pub record Numbered (file : List ℕ) (rows dim groups : ℕ) : Type 0 where
   pub e16 : dim ≡ u32_at file (length file - 24 + 16)
   pub e20 : groups ≡ u32_at file (length file - 24 + 20)
 
-pub numbered : (file : List ℕ) (rows dim groups : ℕ) → told (Read rows dim groups) ≡ on_accepted figures (reads file) → Numbered file rows dim groups
+pub numbered : (file : List ℕ) (rows dim groups : ℕ) → accepted (rows, dim, groups) ≡ on_accepted figures (reads file) → Numbered file rows dim groups
 unfolding reads on_accepted stored_in stored_at
 numbered file rows dim groups e = go (is_result file) refl e
   where
-    go : (b : Bool) → is_result file ≡ b → told (Read rows dim groups) ≡ on_accepted figures (cond b (accepted (stored_in file)) (refused 10)) → Numbered file rows dim groups
+    go : (b : Bool) → is_result file ≡ b → accepted (rows, dim, groups) ≡ on_accepted figures (cond b (accepted (stored_in file)) (refused 10)) → Numbered file rows dim groups
     go true h p =
         let same : ◌≡◌ {A = ℕ × ℕ × ℕ} (rows, dim, groups) (figures (stored_in file)) = cc in
         record { is = h; e12 = ap (λ (f : ℕ × ℕ × ℕ). f.0) same; e16 = ap (λ (f : ℕ × ℕ × ℕ). f.1) same; e20 = ap (λ (f : ℕ × ℕ × ℕ). f.2) same }
     go false h p = let z : ◌≡◌ {A = ℕ} 0 1 = cc in absurd (omega arith)
 
 -- blank cells, as they are after a refusal of the numbers
-pub read_refused : (file lent order ends means : List ℕ) (oc ec mc number : ℕ) → told (Refused number) ≡ on_accepted figures (reads file)
-    → order ≡ replicate oc blank_cell → ends ≡ replicate ec blank_cell → means ≡ replicate mc 0 → Reads (read_call file lent) oc ec mc (Refused number) order ends means
+pub read_refused : (file lent order ends means : List ℕ) (oc ec mc : ℕ) (refusal : Refusal) → refused (number_of refusal) ≡ on_accepted figures (reads file)
+    → order ≡ replicate oc blank_cell → ends ≡ replicate ec blank_cell → means ≡ replicate mc 0 → Reads (read_call file lent) oc ec mc (Err refusal) order ends means
 unfolding read_call on_accepted lent_to cells_of
-read_refused file lent order ends means oc ec mc number e o d m = go (reads file) e
+read_refused file lent order ends means oc ec mc refusal e o d m = go (reads file) e
   where
-    go : (a : Answer Stored) → told (Refused number) ≡ on_accepted figures a → Reads (lent_to lent a) oc ec mc (Refused number) order ends means
+    go : (a : Answer Stored) → refused (number_of refusal) ≡ on_accepted figures a → Reads (lent_to lent a) oc ec mc (Err refusal) order ends means
     go (accepted g) p = let z : ◌≡◌ {A = ℕ} 0 1 = cc in absurd (omega arith)
     go (refused n) p = record { result = p; ordered = o ∙ sym (padded_none blank_cell oc); ended = d ∙ sym (padded_none blank_cell ec); meant = m ∙ sym (padded_none 0 mc) }
 

@@ -12,11 +12,12 @@ use Rattle.sums.proofs.Refusing.{padded_all, padded_none}
 use Rattle.sums.proofs.Whens.{not_both, fails_exactly, later_exactly, accepted_exactly, refused_by, one_or_two}
 use Rattle.results.specs.Grouping.{Stored, numbers_fit, cells_lent, sound}
 use Rattle.results.specs.Files.{file_length, written, stored_in, is_result, reads}
-use Rattle.results.specs.Calls.{write_refusal, write_call, write_told, Writes, lent_to, read_call, told, figures, Reads}
-use Rattle.results.specs.declared.writer.WriteAnswer.{WriteAnswer}
-use Rattle.results.specs.declared.writer.WriteAnswer.TheVariants.{Written, Refused as WriteRefused}
-use Rattle.results.specs.declared.reader.ReadAnswer.{ReadAnswer}
-use Rattle.results.specs.declared.reader.ReadAnswer.TheVariants.{Read, Refused}
+use Rattle.results.specs.Calls.{write_refusal, write_call, Writes, lent_to, read_call, numbers_of, figures, Reads}
+use Rattle.std.proofs.Common.{Result, Ok, Err}
+use Rattle.sums.specs.declared.refusals.Refusal.{Refusal}
+use Rattle.sums.specs.Refused.{number_of}
+use Rattle.sums.proofs.Told.{told_same}
+use Rattle.results.specs.declared.reader.Numbers.{Numbers}
 use Rattle.results.proofs.Sounds.{sound_is, lengths_is}
 use Rattle.results.proofs.Files.{written_length}
 use Rattle.results.proofs.Answers.{fitting}
@@ -140,44 +141,33 @@ module _ (file lent : List ℕ) where
       go false b c = inr cc
 
 -- ---- any two allowed results are the same
-write_told_lem : (r r' : WriteAnswer) → write_told r ≡ write_told r' → r ≡ r'
-write_told_lem Written Written e = refl
-write_told_lem Written (WriteRefused number) e = let z : ◌≡◌ {A = ℕ} 0 1 = cc in absurd (omega arith)
-write_told_lem (WriteRefused number) Written e = let z : ◌≡◌ {A = ℕ} 0 1 = cc in absurd (omega arith)
-write_told_lem (WriteRefused number) (WriteRefused number') e = let z : number ≡ number' = cc in rw z
+numbers_apart : (x y : Numbers) → numbers_of x ≡ numbers_of y → x ≡ y
+numbers_apart x y e = ap (λ (f : ℕ × ℕ × ℕ). record { rows = f.0; dim = f.1; groups = f.2 }) e
 
-read_told_lem : (r r' : ReadAnswer) → told r ≡ told r' → r ≡ r'
-read_told_lem (Read rows dim groups) (Read rows' dim' groups') e =
-    let same : ◌≡◌ {A = ℕ × ℕ × ℕ} (rows, dim, groups) (rows', dim', groups') = cc in
-    ap (λ (f : ℕ × ℕ × ℕ). Read f.0 f.1 f.2) same
-read_told_lem (Read rows dim groups) (Refused number) e = let z : ◌≡◌ {A = ℕ} 0 1 = cc in absurd (omega arith)
-read_told_lem (Refused number) (Read rows dim groups) e = let z : ◌≡◌ {A = ℕ} 0 1 = cc in absurd (omega arith)
-read_told_lem (Refused number) (Refused number') e = let z : number ≡ number' = cc in rw z
+pub writes_one : {a : Answer (List ℕ)} {n : ℕ} {r r' : Result (Unit {0}) Refusal} {out out' : List ℕ} → Writes a n r out → Writes a n r' out' → (r ≡ r') × (out ≡ out')
+writes_one {r = r} {r' = r'} w w' = (told_same (λ (done : Unit {0}). tt {0}) (λ x y e. refl) r r' (w.result ∙ sym w'.result), w.bytes ∙ sym w'.bytes)
 
-pub writes_one : {a : Answer (List ℕ)} {n : ℕ} {r r' : WriteAnswer} {out out' : List ℕ} → Writes a n r out → Writes a n r' out' → (r ≡ r') × (out ≡ out')
-writes_one {r = r} {r' = r'} w w' = (write_told_lem r r' (w.result ∙ sym w'.result), w.bytes ∙ sym w'.bytes)
-
-pub reads_one : {a : Answer Stored} {oc ec mc : ℕ} {r r' : ReadAnswer} {o o' e e' m m' : List ℕ} → Reads a oc ec mc r o e m → Reads a oc ec mc r' o' e' m'
+pub reads_one : {a : Answer Stored} {oc ec mc : ℕ} {r r' : Result Numbers Refusal} {o o' e e' m m' : List ℕ} → Reads a oc ec mc r o e m → Reads a oc ec mc r' o' e' m'
     → (r ≡ r') × ((o ≡ o') × ((e ≡ e') × (m ≡ m')))
 reads_one {r = r} {r' = r'} w w' =
-    (read_told_lem r r' (w.result ∙ sym w'.result), (w.ordered ∙ sym w'.ordered, (w.ended ∙ sym w'.ended, w.meant ∙ sym w'.meant)))
+    (told_same numbers_of numbers_apart r r' (w.result ∙ sym w'.result), (w.ordered ∙ sym w'.ordered, (w.ended ∙ sym w'.ended, w.meant ∙ sym w'.meant)))
 
 -- ---- after a refusal
-pub write_zeros : (a : Answer (List ℕ)) (n number : ℕ) (out : List ℕ) → Writes a n (WriteRefused number) out → (a ≡ refused number) × (out ≡ replicate n 0)
+pub write_zeros : (a : Answer (List ℕ)) (n : ℕ) (refusal : Refusal) (out : List ℕ) → Writes a n (Err refusal) out → (a ≡ refused (number_of refusal)) × (out ≡ replicate n 0)
 unfolding on_accepted cells_of
-write_zeros (accepted file) n number out w = let e = w.result in let z : ◌≡◌ {A = ℕ} 0 1 = cc in absurd (omega arith)
-write_zeros (refused k) n number out w =
-    let e : write_told (WriteRefused number) ≡ refused k = w.result in
-    let z : k ≡ number = cc in
+write_zeros (accepted file) n refusal out w = let e = w.result in let z : ◌≡◌ {A = ℕ} 0 1 = cc in absurd (omega arith)
+write_zeros (refused k) n refusal out w =
+    let e : refused (number_of refusal) ≡ refused k = w.result in
+    let z : k ≡ number_of refusal = cc in
     (ap refused z, w.bytes ∙ padded_none 0 n)
 
-pub read_blanks : (a : Answer Stored) (oc ec mc number : ℕ) (o e m : List ℕ) → Reads a oc ec mc (Refused number) o e m
-    → (a ≡ refused number) × ((o ≡ replicate oc blank_cell) × ((e ≡ replicate ec blank_cell) × (m ≡ replicate mc 0)))
+pub read_blanks : (a : Answer Stored) (oc ec mc : ℕ) (refusal : Refusal) (o e m : List ℕ) → Reads a oc ec mc (Err refusal) o e m
+    → (a ≡ refused (number_of refusal)) × ((o ≡ replicate oc blank_cell) × ((e ≡ replicate ec blank_cell) × (m ≡ replicate mc 0)))
 unfolding on_accepted cells_of
-read_blanks (accepted t) oc ec mc number o e m w = let p = w.result in let z : ◌≡◌ {A = ℕ} 0 1 = cc in absurd (omega arith)
-read_blanks (refused k) oc ec mc number o e m w =
-    let p : told (Refused number) ≡ refused k = w.result in
-    let z : k ≡ number = cc in
+read_blanks (accepted t) oc ec mc refusal o e m w = let p = w.result in let z : ◌≡◌ {A = ℕ} 0 1 = cc in absurd (omega arith)
+read_blanks (refused k) oc ec mc refusal o e m w =
+    let p : refused (number_of refusal) ≡ refused k = w.result in
+    let z : k ≡ number_of refusal = cc in
     (ap refused z, (w.ordered ∙ padded_none blank_cell oc, (w.ended ∙ padded_none blank_cell ec, w.meant ∙ padded_none 0 mc)))
 
 -- ---- after an acceptance
@@ -198,18 +188,18 @@ written_long t n file e = go (write_refusal t.rows t.dim t.groups (length t.orde
     go zero r false h p = let z : ◌≡◌ {A = ℕ} 0 1 = cc in absurd (omega arith)
     go (suc number) r b h p = let z : ◌≡◌ {A = ℕ} 0 1 = cc in absurd (omega arith)
 
--- the output that a writer told `Written` leaves is read as the grouping that it was handed
-pub told_written : (t : Stored) (n : ℕ) (out : List ℕ) → Writes (write_call t n) n Written out → (sound t ≡ true) × (reads out ≡ accepted t)
+-- the output that a writer told `Ok` leaves is read as the grouping that it was handed
+pub told_written : (t : Stored) (n : ℕ) (out : List ℕ) → Writes (write_call t n) n (Ok (tt {0})) out → (sound t ≡ true) × (reads out ≡ accepted t)
 unfolding on_accepted cells_of
 told_written t n out w = go (write_call t n) refl w.result w.bytes
   where
-    go : (a : Answer (List ℕ)) → write_call t n ≡ a → write_told Written ≡ on_accepted (λ (f : List ℕ). tt) a → out ≡ cells_of 0 n (λ (file : List ℕ). file) a → (sound t ≡ true) × (reads out ≡ accepted t)
+    go : (a : Answer (List ℕ)) → write_call t n ≡ a → accepted (tt {0}) ≡ on_accepted (λ (f : List ℕ). tt {0}) a → out ≡ cells_of 0 n (λ (file : List ℕ). file) a → (sound t ≡ true) × (reads out ≡ accepted t)
     go (accepted file) e r b =
         let s = written_sound t n file e in
         (s.0, ap reads (b ∙ padded_all 0 n file (written_long t n file e)) ∙ s.1)
     go (refused number) e r b = let z : ◌≡◌ {A = ℕ} 0 1 = cc in absurd (omega arith)
 
--- the cells that a reader told `Read` leaves are those of a sound grouping, which written again gives the file's bytes
+-- the cells that a reader told `Ok` leaves are those of a sound grouping, which written again gives the file's bytes
 module _ (file order ends means : List ℕ) (oc ec mc rows dim groups : ℕ) where
   abbrev read : Stored
   read = record { rows = rows; dim = dim; groups = groups; order = order; ends = ends; means = means }
@@ -224,12 +214,12 @@ module _ (file order ends means : List ℕ) (oc ec mc rows dim groups : ℕ) whe
       go false h p = let z : ◌≡◌ {A = ℕ} 0 1 = cc in absurd (omega arith)
   lent_accepted t (refused number) e = let z : ◌≡◌ {A = ℕ} 0 1 = cc in absurd (omega arith)
 
-  pub told_read : Reads (read_call file (oc ∷ ec ∷ mc ∷ [])) oc ec mc (Read rows dim groups) order ends means
+  pub told_read : Reads (read_call file (oc ∷ ec ∷ mc ∷ [])) oc ec mc (Ok (record { rows = rows; dim = dim; groups = groups })) order ends means
       → (reads file ≡ accepted read) × ((sound read ≡ true) × (write_call read (length file) ≡ accepted file))
   unfolding read_call on_accepted cells_of
   told_read w = go (lent_to (oc ∷ ec ∷ mc ∷ []) (reads file)) refl w.result w.ordered w.ended w.meant
     where
-      go : (a : Answer Stored) → lent_to (oc ∷ ec ∷ mc ∷ []) (reads file) ≡ a → told (Read rows dim groups) ≡ on_accepted figures a
+      go : (a : Answer Stored) → lent_to (oc ∷ ec ∷ mc ∷ []) (reads file) ≡ a → accepted (rows, dim, groups) ≡ on_accepted figures a
           → order ≡ cells_of blank_cell oc (λ (t : Stored). t.order) a → ends ≡ cells_of blank_cell ec (λ (t : Stored). t.ends) a → means ≡ cells_of 0 mc (λ (t : Stored). t.means) a
           → (reads file ≡ accepted read) × ((sound read ≡ true) × (write_call read (length file) ≡ accepted file))
       go (accepted t) e r o d m =

@@ -14,7 +14,8 @@ use Rattle.sums.proofs.Belows.{below_drop}
 use Rattle.sums.proofs.Refusing.{both, padded_length}
 use Rattle.sums.proofs.Fronts.{flat_length}
 use Rattle.words.specs.Bytes.{number_of, u32_at, words_from, bytes16, bytes32, halves_from}
-use Rattle.words.proofs.ByteLaws.{words_tab, words_length}
+use Rattle.words.proofs.ByteLaws.{words_length}
+use Rattle.words.specs.Laws.{words_tab}
 use Rattle.results.specs.Grouping.{Stored, all_are, content_fits, each_once, rising}
 use Rattle.results.specs.Files.{file_length, trailer_of, written, stored_at, stored_in}
 use Rattle.results.specs.Inside.{holds_rows}

@@ -12,9 +12,11 @@ use Rattle.sums.specs.Refusals.{Answer, accepted, refused, on_accepted, within}
 use Rattle.sums.specs.Sums.{zero32}
 use Rattle.sums.proofs.Refusing.{both, within_is}
 use Rattle.grouping.specs.declared.config.GroupingConfig.{GroupingConfig}
-use Rattle.grouping.specs.declared.waiting.GroupingAnswer.TheVariants.{Accepted}
+use Rattle.std.specs.Prelude.{Ok}
+use Rattle.sums.specs.Refused.{told}
+use Rattle.grouping.specs.declared.waiting.Counts.{Counts}
 use Rattle.grouping.specs.Groups.{Groups}
-use Rattle.grouping.specs.Answers.{told, figures}
+use Rattle.grouping.specs.Answers.{counted, figures}
 use Rattle.grouping.specs.Call.{ranges_fit}
 use Rattle.grouping.proofs.CallPromises.{passed_exactly, accepted_passed}
 use Rattle.grouping.proofs.CellPromises.{Result, called, call_cells, call_means}
@@ -48,27 +50,27 @@ ranges_are rows dim config e =
     ((within_is 0 4096 rows d.0).1, within_is 1 64 dim d.1)
 
 module _ (rows dim : ℕ) (config : GroupingConfig) (drawn : List ℕ) (values : List Float) (order_room end_room mean_room : ℕ) (work : List ℕ) where
-  accepted_ranges : (groups splits unplaced : ℕ) (order ends : List ℕ) (means : List Float)
-      → Result rows dim config drawn values order_room end_room mean_room work (Accepted groups splits unplaced) order ends means → (rows ≤ 4096) × ((1 ≤ dim) × (dim ≤ 64))
+  accepted_ranges : (counts : Counts) (order ends : List ℕ) (means : List Float)
+      → Result rows dim config drawn values order_room end_room mean_room work (Ok counts) order ends means → (rows ≤ 4096) × ((1 ≤ dim) × (dim ≤ 64))
   unfolding on_accepted
-  accepted_ranges groups splits unplaced order ends means given = go (called rows dim config drawn values order_room end_room mean_room work) refl given.result
+  accepted_ranges counts order ends means given = go (called rows dim config drawn values order_room end_room mean_room work) refl given.result
     where
-      go : (a : Answer Groups) → called rows dim config drawn values order_room end_room mean_room work ≡ a → told (Accepted groups splits unplaced) ≡ on_accepted figures a
+      go : (a : Answer Groups) → called rows dim config drawn values order_room end_room mean_room work ≡ a → told counted (Ok counts) ≡ on_accepted figures a
           → (rows ≤ 4096) × ((1 ≤ dim) × (dim ≤ 64))
       go (accepted g) e t =
           let lent = order_room ∷ end_room ∷ mean_room ∷ work in
           ranges_are rows dim config ((passed_exactly rows dim config drawn values lent).0 (accepted_passed rows dim config drawn values lent g e)).0
-      go (refused number) e t = let z : ◌≡◌ {A = ℕ} 0 1 = cc in absurd (omega arith)
+      go (refused number) e t = cc
 
   -- the cells of an accepted call, its means as any bits that stand for them, are sound
-  pub grouping_sound : (groups splits unplaced : ℕ) (order ends : List ℕ) (means : List Float) (bits : List ℕ)
-      → Result rows dim config drawn values order_room end_room mean_room work (Accepted groups splits unplaced) order ends means → BitsOf bits means
-      → sound (record { rows = rows; dim = dim; groups = groups; order = order; ends = ends; means = bits }) ≡ true
-  grouping_sound groups splits unplaced order ends means bits given b =
-      let r = accepted_ranges groups splits unplaced order ends means given in
-      let c = call_cells rows dim config drawn values order_room end_room mean_room work groups splits unplaced order ends means given in
-      let m = call_means rows dim config drawn values order_room end_room mean_room work groups splits unplaced order ends means given in
-      left_sound (record { rows = rows; dim = dim; groups = groups; order = order; ends = ends; means = bits })
+  pub grouping_sound : (counts : Counts) (order ends : List ℕ) (means : List Float) (bits : List ℕ)
+      → Result rows dim config drawn values order_room end_room mean_room work (Ok counts) order ends means → BitsOf bits means
+      → sound (record { rows = rows; dim = dim; groups = counts.groups; order = order; ends = ends; means = bits }) ≡ true
+  grouping_sound counts order ends means bits given b =
+      let r = accepted_ranges counts order ends means given in
+      let c = call_cells rows dim config drawn values order_room end_room mean_room work counts order ends means given in
+      let m = call_means rows dim config drawn values order_room end_room mean_room work counts order ends means given in
+      left_sound (record { rows = rows; dim = dim; groups = counts.groups; order = order; ends = ends; means = bits })
       (record {
         rows_most = r.0;
         dim_least = r.1.0;

@@ -6,7 +6,7 @@ use mathlib.Core.List.{List, [], ◌∷◌, ◌++◌}
 use native.Mathlib.Omega.{arith}
 use borrow.Author.Tests.{eqb-true, eq-eqb}
 use lib.Dec.{eqb}
-use lib.ListN.{length, take, drop, replicate, length-drop, length-replicate, take-append-drop}
+use lib.ListN.{length, take, drop, replicate, length-drop, take-append-drop}
 use lib.Seq.{take_at, drop_at, length-take-le}
 use Rattle.sums.specs.Refusals.{padded}
 use Rattle.sums.proofs.Refusing.{padded_none, padded_is, both}
@@ -56,6 +56,3 @@ over_blanks blank n k l xs e long fits =
         go n zero h = let e : n - 0 ≡ n = omega arith in rw e
         go zero (suc k) h = absurd (omega arith)
         go (suc n) (suc k) h = let e : suc n - suc k ≡ n - k = omega arith in rw e (go n k (omega arith))
-
-pub cleared : (v n : ℕ) (l : List ℕ) → l ≡ replicate n v → l ≡ replicate (length l) v
-cleared v n l e = e ∙ ap (λ (k : ℕ). replicate k v) (sym (ap length e ∙ length-replicate n v))

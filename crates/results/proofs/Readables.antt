@@ -17,8 +17,9 @@ use Rattle.words.proofs.Blocks.{halves_length}
 use Rattle.results.specs.Grouping.{times_in, each_once, rising, numbers_fit}
 use Rattle.results.specs.Files.{file_length, reads}
 use Rattle.results.specs.Inside.{laid_out, holds_rows}
-use Rattle.results.specs.Calls.{told, figures}
-use Rattle.results.specs.declared.reader.ReadAnswer.TheVariants.{Read}
+use Rattle.std.proofs.Common.{Ok}
+use Rattle.sums.specs.Refused.{told}
+use Rattle.results.specs.Calls.{numbers_of, figures}
 use Rattle.results.proofs.Sounds.{numbers_is}
 use Rattle.results.proofs.Answers.{found, is_found, numbers_read, numbered}
 use Rattle.results.proofs.Promises.{sizes_from, times_count, once_each, each_once_lem, rise_sizes, sizes_rise}
@@ -60,7 +61,7 @@ module _ (file : List ℕ) (rows dim groups : ℕ) where
   ends_long : length ends ≡ groups
   ends_long = halves_length groups (drop (rows * 2) file)
 
-  read_readable : told (Read rows dim groups) ≡ on_accepted figures (reads file) → Readable file rows dim groups
+  read_readable : told numbers_of (Ok (record { rows = rows; dim = dim; groups = groups })) ≡ on_accepted figures (reads file) → Readable file rows dim groups
   unfolding laid_out holds_rows
   read_readable e =
       let n = numbered file rows dim groups e in
@@ -87,7 +88,7 @@ module _ (file : List ℕ) (rows dim groups : ℕ) where
         sum = omega (arith, s.1);
       }
 
-  readable_read : Below 256 file → Readable file rows dim groups → told (Read rows dim groups) ≡ on_accepted figures (reads file)
+  readable_read : Below 256 file → Readable file rows dim groups → told numbers_of (Ok (record { rows = rows; dim = dim; groups = groups })) ≡ on_accepted figures (reads file)
   unfolding laid_out holds_rows numbers_fit
   readable_read bytes d =
       let many : length (sizes_from 0 ends) ≡ groups = sizes_length 0 ends ∙ ends_long in
@@ -105,5 +106,5 @@ module _ (file : List ℕ) (rows dim groups : ℕ) where
       }))
 
   -- The reader tells these numbers of a file of bytes exactly when it is so.
-  pub read_exactly : Below 256 file → (told (Read rows dim groups) ≡ on_accepted figures (reads file)) ↔ Readable file rows dim groups
+  pub read_exactly : Below 256 file → (told numbers_of (Ok (record { rows = rows; dim = dim; groups = groups })) ≡ on_accepted figures (reads file)) ↔ Readable file rows dim groups
   read_exactly bytes = (read_readable, readable_read bytes)

@@ -5,16 +5,14 @@ use mathlib.Core.Bool.{Bool, true, false, ◌&&◌, cond}
 use mathlib.Core.List.{List, [], ◌∷◌, ◌++◌}
 use native.Mathlib.Numerals.{add-one}
 use native.Mathlib.Omega.{arith}
-use borrow.Author.Tests.{eqb-true, eqb-false, eq-eqb, ne_eqb, lt-ltb, le-ltb}
+use borrow.Author.Tests.{eqb-true, eqb-false, eq-eqb, ne_eqb}
 use lib.Dec.{eqb}
 use lib.ListN.{length, get_or, set, take, drop, replicate, length-set, drop_of_length-le}
 use lib.Seq.{drop-cons, take-suc, ext_get_or, get_or-set_same, get_or-set_other}
 use Rattle.sums.specs.Tables.{tabulate}
 use Rattle.sums.proofs.Tables.{length_tab, get_d_tab, tab_const}
 use Rattle.sums.proofs.Fronts.{take_few}
-use Rattle.results.specs.Grouping.{all_pass, all_are, all_below, times_in, times_each, each_once, rising}
-use Rattle.words.specs.Bytes.{halves_from}
-use Rattle.words.proofs.Blocks.{halves_length}
+use Rattle.results.specs.Grouping.{all_pass, all_are, all_below, times_in, times_each, each_once}
 
 -- ---- every cell passes
 module _ (test : ℕ → Bool) (l : List ℕ) (i : ℕ) (r : Bool) where
@@ -31,26 +29,6 @@ module _ (test : ℕ → Bool) (l : List ℕ) (i : ℕ) (r : Bool) where
   pub pass_end : length l ≤ i → all_pass test (drop i l) ≡ r → true ≡ r
   unfolding all_pass
   pass_end h p = sym (ap (all_pass test) (drop_of_length-le l {i = i} h)) ∙ p
-
--- ---- ends that rise
-module _ (start rows : ℕ) (l : List ℕ) (i : ℕ) (r : Bool) where
-  rise_turn : i < length l → start < get_or l i 0 → rising start (drop i l) rows ≡ rising (get_or l i 0) (drop (suc i) l) rows
-  unfolding rising
-  rise_turn h k = rw (drop-cons l i 0 h, lt-ltb start (get_or l i 0) k)
-
-  rise_stop : i < length l → get_or l i 0 ≤ start → rising start (drop i l) rows ≡ false
-  unfolding rising
-  rise_stop h k = rw (drop-cons l i 0 h, le-ltb start (get_or l i 0) k)
-
-  pub rise_on : (end : ℕ) → end ≡ get_or l i 0 → i < length l → start < end → rising start (drop i l) rows ≡ r → rising end (drop (i + 1) l) rows ≡ r
-  rise_on end e h k p = rw (e, add-one i) (sym (rise_turn h (rw e at k)) ∙ p)
-
-  pub rise_not : (end : ℕ) → end ≡ get_or l i 0 → i < length l → end ≤ start → rising start (drop i l) rows ≡ r → false ≡ r
-  rise_not end e h k p = sym (rise_stop h (rw e at k)) ∙ p
-
-  pub rise_end : length l ≤ i → rising start (drop i l) rows ≡ r → eqb start rows ≡ r
-  unfolding rising
-  rise_end h p = sym (ap (λ (x : List ℕ). rising start x rows) (drop_of_length-le l {i = i} h)) ∙ p
 
 -- ---- how often each row is listed
 pub times_append : (x : ℕ) (a b : List ℕ) → times_in x (a ++ b) ≡ times_in x a + times_in x b
@@ -112,6 +90,3 @@ once_not m l e h = rw (rw e at h)
 pub once_is : (m : ℕ) (l seen : List ℕ) (r : Bool) → m ≡ length l → all_below m l ≡ true → seen ≡ times_each m l → r ≡ all_are 1 seen → r ≡ each_once (length l) l
 unfolding each_once
 once_is m l seen r e h s a = a ∙ ap (λ (x : List ℕ). all_are 1 x) s ∙ rw e (sym (ap (λ (b : Bool). b && all_are 1 (times_each (length l) l)) (rw e at h)))
-
-pub once_same : (n : ℕ) (bytes l : List ℕ) → l ≡ halves_from n bytes → each_once (length l) l ≡ each_once n (halves_from n bytes)
-once_same n bytes l e = ap (λ (x : List ℕ). each_once (length x) x) e ∙ ap (λ (m : ℕ). each_once m (halves_from n bytes)) (halves_length n bytes)

@@ -17,7 +17,7 @@ abbrev pub stored : ℕ → ℕ → ℕ → List ℕ → List ℕ → List ℕ �
 stored rows dim groups order ends means = record { rows = rows; dim = dim; groups = groups; order = order; ends = ends; means = means }
 
 -- every cell passes the test
-unfoldable pub all_pass : (ℕ → Bool) → List ℕ → Bool
+unfoldable pub all_pass : {A : Type 0} → (A → Bool) → List A → Bool
 all_pass test [] = true
 all_pass test (x ∷ l) = test x && all_pass test l
 

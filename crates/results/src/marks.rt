@@ -1,33 +1,18 @@
 // The tests of a grouping's cells: each row once, ends that rise, blanks.
 ghost use Rattle.std.specs.Prelude.{◌≡◌, true, ◌≤◌, length, replicate};
-ghost use Rattle.results.specs.Grouping.{all_are as all_are_lem, all_below, times_each, each_once, rising};
+ghost use Rattle.results.specs.Grouping.{all_pass, all_below, times_each, each_once, rising};
 
-use sums::{cells, rooms};
+use sums::rooms;
 
-// Every cell holds this number.
-pub fn all_are(cells: &[u16], v: u16) -> bool
-    ensures { result ≡ all_are_lem v cells.now }
+// Every cell holds this number: of a mean's bits 0 is +0.0, and -0.0 is not.
+#[tactic(auto, unfolding(crate::specs::Grouping::all_pass))]
+pub fn all_are<T: PartialEq + Copy>(cells: &[T], v: T) -> bool
+    ensures { result ≡ all_pass (λ x. T.eq x v) cells.now }
 {
-    let mut i = 0usize;
-    while i < cells.len() {
-        if cells[i] != v {
+    for cell in cells {
+        if *cell != v {
             return false;
         }
-        i += 1;
-    }
-    true
-}
-
-// Every word is 0: of a mean's bits that is +0.0, and -0.0 is not.
-pub fn all_zero(cells: &[u32]) -> bool
-    ensures { result ≡ all_are_lem 0 cells.now }
-{
-    let mut i = 0usize;
-    while i < cells.len() {
-        if cells[i] != 0 {
-            return false;
-        }
-        i += 1;
     }
     true
 }
@@ -38,14 +23,12 @@ fn count_rows(order: &[u16], seen: &mut [u16]) -> bool
     ensures value { result ≡ all_below (length seen.old) order.now }
     ensures seen_after { result ≡ true → seen.new ≡ times_each (length seen.old) order.now }
 {
-    let mut i = 0usize;
-    while i < order.len() {
-        let row = cells::wide(order[i]);
+    for listed in order {
+        let row = *listed as usize;
         if seen.len() <= row {
             return false;
         }
         seen[row] += 1;
-        i += 1;
     }
     true
 }
@@ -55,7 +38,7 @@ fn once_in(order: &[u16], seen: &mut [u16]) -> bool
     requires { (length seen.old ≡ length order.now) × (length order.now ≤ 4096) }
     ensures { result ≡ each_once (length order.now) order.now }
 {
-    cells::fill(seen, 0);
+    seen.fill(0);
     if !count_rows(order, seen) {
         return false;
     }
@@ -67,24 +50,22 @@ pub fn rows_once(order: &[u16]) -> bool
     requires { length order.now ≤ 4096 }
     ensures { result ≡ each_once (length order.now) order.now }
 {
-    let n = order.len();
-    let mut seen = rooms::cell_room();
-    once_in(order, &mut seen[..n])
+    let mut seen = rooms::room::<u16, 4096>(0);
+    once_in(order, &mut seen[..order.len()])
 }
 
 // Ends that rise from 0, each above the one before, and come to the number of rows.
+#[tactic(auto, unfolding(crate::specs::Grouping::rising))]
 pub fn rises(ends: &[u16], rows: usize) -> bool
     ensures { result ≡ rising 0 ends.now rows }
 {
-    let mut start = 0usize;
-    let mut i = 0usize;
-    while i < ends.len() {
-        let end = cells::wide(ends[i]);
+    let mut start = 0;
+    for end in ends {
+        let end = *end as usize;
         if end <= start {
             return false;
         }
         start = end;
-        i += 1;
     }
     start == rows
 }

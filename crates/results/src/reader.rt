@@ -1,73 +1,61 @@
 // A result file read back into a grouping's cells.
-ghost use Rattle.std.specs.Prelude.{◌≡◌, true, ◌&&◌, [], ◌∷◌, ℕ, ◌+◌, ◌-◌, ◌*◌, ◌≤◌, length, drop, replicate};
-ghost use Rattle.sums.specs.Refusals.{on_accepted, padded, same_all};
+ghost use Rattle.std.specs.Prelude.{◌≡◌, [], ◌∷◌, ℕ, ◌+◌, ◌-◌, ◌*◌, ◌≤◌, length, drop, replicate};
+ghost use Rattle.sums.specs.Refusals.{accepted, on_accepted, padded, same_all};
+ghost use Rattle.sums.specs.Refused.{told};
 ghost use Rattle.words.specs.Bytes.{u32_at, words_from, halves_from};
-ghost use Rattle.results.specs.Grouping.{each_once, rising, cells_lent};
+ghost use Rattle.results.specs.Grouping.{each_once, rising, numbers_fit, cells_lent};
 ghost use Rattle.results.specs.Files.{file_length, is_result as is_result_lem, reads};
-ghost use Rattle.results.specs.Calls.{read_call, told, figures, Reads};
+ghost use Rattle.results.specs.Calls.{read_call, numbers_of, figures, Reads};
 ghost use Rattle.results.specs.Inside.{laid_out as laid_out_lem, holds_rows as holds_rows_lem};
-ghost use Rattle.results.specs.declared.reader.ReadAnswer.TheVariants.{Read};
 
 use crate::marks;
-use sums::{cells, checks, rooms};
+use sums::refusals::Refusal;
+use sums::rooms;
+use words::FromBytes;
 
-#[derive(Clone, Copy)]
-pub enum ReadAnswer {
-    Read { rows: u32, dim: u32, groups: u32 },
-    // the number of the refusal
-    Refused(u32),
+// What a result file says of the grouping in it: rows, dim and how many groups.
+#[derive(Clone, Copy, Debug, PartialEq, Eq)]
+pub struct Numbers {
+    pub rows: u32,
+    pub dim: u32,
+    pub groups: u32,
 }
 
-// Whether the row numbers of a block are each row once: they are read into cells first, which are the caller's.
-fn order_in(bytes: &[u8], cells: &mut [u16]) -> bool
-    requires { (length bytes.now ≡ length cells.old * 2) × (length cells.old ≤ 4096) }
-    ensures { result ≡ each_once (length cells.old) (halves_from (length cells.old) bytes.now) }
-{
-    words::halves_of(bytes, cells);
-    marks::rows_once(cells)
-}
-
-// The same with room of its own.
+// Whether the row numbers of a block are each row once.
 fn order_holds(bytes: &[u8], rows: usize) -> bool
     requires { (length bytes.now ≡ rows * 2) × (rows ≤ 4096) }
     ensures { result ≡ each_once rows (halves_from rows bytes.now) }
 {
-    let mut room = rooms::cell_room();
-    order_in(bytes, &mut room[..rows])
+    let mut room = rooms::room::<u16, 4096>(0);
+    let order = &mut room[..rows];
+    words::read_all(bytes, order);
+    marks::rows_once(order)
 }
 
-// Whether the ends of a block rise to the number of rows, likewise.
-fn ends_in(bytes: &[u8], cells: &mut [u16], rows: usize) -> bool
-    requires { length bytes.now ≡ length cells.old * 2 }
-    ensures { result ≡ rising 0 (halves_from (length cells.old) bytes.now) rows }
-{
-    words::halves_of(bytes, cells);
-    marks::rises(cells, rows)
-}
-
-// The same with room of its own.
+// Whether the ends of a block rise to the number of rows.
 fn ends_hold(bytes: &[u8], groups: usize, rows: usize) -> bool
     requires { (length bytes.now ≡ groups * 2) × (groups ≤ 4096) }
     ensures { result ≡ rising 0 (halves_from groups bytes.now) rows }
 {
-    let mut room = rooms::cell_room();
-    ends_in(bytes, &mut room[..groups], rows)
+    let mut room = rooms::room::<u16, 4096>(0);
+    let ends = &mut room[..groups];
+    words::read_all(bytes, ends);
+    marks::rises(ends, rows)
 }
 
 // What is in the first two blocks; the means may be anything.
+#[tactic(auto, unfolding(crate::specs::Inside::holds_rows), using(words::proofs::Blocks::halves_front))]
 fn holds_rows(file: &[u8], rows: usize, groups: usize) -> bool
     requires { (rows ≤ 4096) × ((groups ≤ rows) × (rows * 2 + groups * 2 ≤ length file.now)) }
     ensures { result ≡ holds_rows_lem file.now rows groups }
 {
     let a = rows * 2;
     let b = a + groups * 2;
-    checks::both(
-        order_holds(&file[..a], rows),
-        ends_hold(&file[a..b], groups, rows),
-    )
+    order_holds(&file[..a], rows) && ends_hold(&file[a..b], groups, rows)
 }
 
 // Starts are compared and not trusted; the numbers are in range, so no product wraps.
+#[tactic(auto, unfolding(crate::specs::Inside::laid_out))]
 fn laid_out(file: &[u8], rows: usize, dim: usize, groups: usize) -> bool
     requires { (24 ≤ length file.now) × ((rows ≤ 4096) × ((dim ≤ 64) × (groups ≤ rows))) }
     ensures { result ≡ laid_out_lem file.now rows dim groups }
@@ -75,21 +63,31 @@ fn laid_out(file: &[u8], rows: usize, dim: usize, groups: usize) -> bool
     let at = file.len() - 24;
     let ends = rows * 2;
     let means = ends + groups * 2;
-    let a = checks::same(words::u32_at(file, at) as usize, 0);
-    let b = checks::both(a, checks::same(words::u32_at(file, at + 4) as usize, ends));
-    let c = checks::both(b, checks::same(words::u32_at(file, at + 8) as usize, means));
-    checks::both(checks::same(file.len(), means + groups * dim * 4 + 24), c)
+    file.len() == means + groups * dim * 4 + 24
+        && u32::read_at(file, at) == 0
+        && u32::read_at(file, at + 4) as usize == ends
+        && u32::read_at(file, at + 8) as usize == means
+}
+
+// Whether rows and dim are in range.
+#[tactic(auto, unfolding(crate::specs::Grouping::numbers_fit))]
+fn in_range(numbers: Numbers) -> bool
+    ensures { result ≡ numbers_fit numbers.rows numbers.dim }
+{
+    (0..=4096).contains(&numbers.rows) && (1..=64).contains(&numbers.dim)
 }
 
 // 10: whether the file is a result file, by the numbers at its end.
-fn is_result(file: &[u8], rows: u32, dim: u32, groups: u32) -> bool
+fn is_result(file: &[u8], numbers: Numbers) -> bool
     requires in_bounds { 24 ≤ length file.now }
-    requires fact { (let w : ℕ → ℕ = λ i. u32_at file.now (length file.now - 24 + i) in (rows ≡ w 12) × ((dim ≡ w 16) × (groups ≡ w 20))) }
+    requires fact { let w : ℕ → ℕ = λ i. u32_at file.now (length file.now - 24 + i) in
+        (numbers.rows ≡ w 12) × ((numbers.dim ≡ w 16) × (numbers.groups ≡ w 20)) }
     ensures { result ≡ is_result_lem file.now }
 {
-    if !checks::both(checks::within(0, 4096, rows), checks::within(1, 64, dim)) {
+    if !in_range(numbers) {
         return false;
     }
+    let Numbers { rows, dim, groups } = numbers;
     if rows < groups {
         return false;
     }
@@ -122,65 +120,59 @@ fn fill_cells(
     let a = order.len() * 2;
     let b = a + groups * 2;
     let c = b + cells * 4;
-    words::halves_of(&file[..a], order);
-    words::halves_of(&file[a..b], &mut ends[..groups]);
-    words::words_of(&file[b..c], &mut means[..cells]);
+    words::read_all(&file[..a], order);
+    words::read_all(&file[a..b], &mut ends[..groups]);
+    words::read_all(&file[b..c], &mut means[..cells]);
 }
 
 // 2: whether the lent slices are as long as the file's numbers say.
+#[tactic(auto, unfolding(sums::specs::Refusals::same_all))]
 fn lent_fit(rows: usize, dim: usize, order: usize, ends: usize, means: usize) -> bool
     requires { (rows ≤ 4096) × (dim ≤ 64) }
     ensures { result ≡ same_all (order ∷ ends ∷ means ∷ []) (cells_lent rows dim) }
 {
-    let a = checks::both(checks::same(means, rows * dim), true);
-    let b = checks::both(checks::same(ends, rows), a);
-    checks::both(checks::same(order, rows), b)
+    order == rows && ends == rows && means == rows * dim
 }
 
 // The numbers of a file, by which a caller makes the slices that it is read into: every test of 10 is made here.
-pub fn result_numbers(file: &[u8]) -> ReadAnswer
-    ensures { told result ≡ on_accepted figures (reads file.now) }
+pub fn result_numbers(file: &[u8]) -> Result<Numbers, Refusal>
+    ensures { told numbers_of result ≡ on_accepted figures (reads file.now) }
 {
     if file.len() < 24 {
-        return ReadAnswer::Refused(10);
+        return Err(Refusal::NoResult);
     }
     let at = file.len() - 24;
-    let rows = words::u32_at(file, at + 12);
-    let dim = words::u32_at(file, at + 16);
-    let groups = words::u32_at(file, at + 20);
-    if !is_result(file, rows, dim, groups) {
-        return ReadAnswer::Refused(10);
+    let rows = u32::read_at(file, at + 12);
+    let dim = u32::read_at(file, at + 16);
+    let groups = u32::read_at(file, at + 20);
+    let numbers = Numbers { rows, dim, groups };
+    if !is_result(file, numbers) {
+        return Err(Refusal::NoResult);
     }
-    ReadAnswer::Read { rows, dim, groups }
+    Ok(numbers)
 }
 
 // What is left of a reading when the file is one with these numbers, over blank cells: 2, or the cells.
 fn read_cells(
     file: &[u8],
-    rows: u32,
-    dim: u32,
-    groups: u32,
+    numbers: Numbers,
     order: &mut [u16],
     ends: &mut [u16],
     means: &mut [u32],
-) -> ReadAnswer
-    requires groups_value { told (Read rows dim groups) ≡ on_accepted figures (reads file.now) }
+) -> Result<Numbers, Refusal>
+    requires groups_value { accepted (numbers_of numbers) ≡ on_accepted figures (reads file.now) }
     requires order_value { (order.old ≡ replicate (length order.old) 65535)
         × ((ends.old ≡ replicate (length ends.old) 65535) × (means.old ≡ replicate (length means.old) 0)) }
     ensures { let o = length order.old in let e = length ends.old in let m = length means.old in
         Reads (read_call file.now (o ∷ e ∷ m ∷ [])) o e m result order.new ends.new means.new }
 {
-    if !lent_fit(
-        rows as usize,
-        dim as usize,
-        order.len(),
-        ends.len(),
-        means.len(),
-    ) {
-        return ReadAnswer::Refused(2);
+    let rows = numbers.rows as usize;
+    let dim = numbers.dim as usize;
+    if !lent_fit(rows, dim, order.len(), ends.len(), means.len()) {
+        return Err(Refusal::Length);
     }
-    fill_cells(file, dim as usize, groups as usize, order, ends, means);
-    ReadAnswer::Read { rows, dim, groups }
+    fill_cells(file, dim, numbers.groups as usize, order, ends, means);
+    Ok(numbers)
 }
 
 // The reader's whole call: 10 for what is no result file, then 2, and else the grouping. Cells are blanked first, so that no refusal leaves any.
@@ -189,17 +181,13 @@ pub fn read_result(
     order: &mut [u16],
     ends: &mut [u16],
     means: &mut [u32],
-) -> ReadAnswer
+) -> Result<Numbers, Refusal>
     ensures { let o = length order.old in let e = length ends.old in let m = length means.old in
         Reads (read_call file.now (o ∷ e ∷ m ∷ [])) o e m result order.new ends.new means.new }
 {
-    cells::fill(order, 65535);
-    cells::fill(ends, 65535);
-    cells::clear_words(means);
-    match result_numbers(file) {
-        ReadAnswer::Read { rows, dim, groups } => {
-            read_cells(file, rows, dim, groups, order, ends, means)
-        }
-        ReadAnswer::Refused(number) => ReadAnswer::Refused(number),
-    }
+    order.fill(65535);
+    ends.fill(65535);
+    means.fill(0);
+    let numbers = result_numbers(file)?;
+    read_cells(file, numbers, order, ends, means)
 }

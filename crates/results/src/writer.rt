@@ -1,23 +1,19 @@
 // A grouping written as a result file.
-ghost use Rattle.std.specs.Prelude.{◌≡◌, ◌+◌, ◌*◌, ◌≤◌, length};
+ghost use Rattle.std.specs.Prelude.{◌≡◌, [], ◌∷◌, ◌+◌, ◌*◌, ◌≤◌, length};
 ghost use mathlib.Core.List.{flat_map};
+ghost use Rattle.sums.specs.Refused.{number_in};
 ghost use Rattle.words.specs.Bytes.{bytes32};
+ghost use Rattle.sums.specs.Refusals.{same_all};
 ghost use Rattle.results.specs.Grouping.{stored, content_fits as content_fits_lem};
 ghost use Rattle.results.specs.Files.{file_length, trailer_of, written};
 ghost use Rattle.results.specs.Calls.{write_refusal, write_call, Writes};
 
 use crate::marks;
-use sums::{cells, checks};
+use sums::refusals::Refusal;
 
-#[derive(Clone, Copy)]
-pub enum WriteAnswer {
-    Written,
-    // the number of the refusal
-    Refused(u32),
-}
-
-// Refusals 1 and 2, or 0. With dim in range no product wraps, however many groups are named.
-fn refusal(
+// 2: a slice is not of its length. With dim in range no product wraps, however many groups are named.
+#[tactic(auto, unfolding(sums::specs::Refusals::same_all))]
+fn lengths_fit(
     rows: u32,
     dim: u32,
     groups: u32,
@@ -25,26 +21,40 @@ fn refusal(
     ends: usize,
     means: usize,
     out: usize,
-) -> u32
-    ensures { result ≡ write_refusal rows dim groups order ends means out }
+) -> bool
+    requires { (rows ≤ 4096) × (dim ≤ 64) }
+    ensures { result ≡ same_all (order ∷ ends ∷ means ∷ out ∷ []) (rows ∷ rows ∷ rows * dim ∷ file_length rows dim groups ∷ []) }
 {
-    if !checks::both(checks::within(0, 4096, rows), checks::within(1, 64, dim)) {
-        return 1;
-    }
     let n = rows as usize;
     let wide = dim as usize;
     let k = groups as usize;
-    let wanted = n * 2 + k * 2 + k * wide * 4 + 24;
-    let a = checks::both(checks::same(out, wanted), true);
-    let b = checks::both(checks::same(means, n * wide), a);
-    let c = checks::both(checks::same(ends, n), b);
-    if !checks::both(checks::same(order, n), c) {
-        return 2;
+    order == n && ends == n && means == n * wide && out == n * 2 + k * 2 + k * wide * 4 + 24
+}
+
+// Refusals 1 and 2.
+#[tactic(auto, unfolding(crate::specs::Calls::write_refusal, crate::specs::Grouping::numbers_fit, sums::specs::Refusals::lowest_from))]
+fn check(
+    rows: u32,
+    dim: u32,
+    groups: u32,
+    order: usize,
+    ends: usize,
+    means: usize,
+    out: usize,
+) -> Result<(), Refusal>
+    ensures { number_in result ≡ write_refusal rows dim groups order ends means out }
+{
+    if !((0..=4096).contains(&rows) && (1..=64).contains(&dim)) {
+        return Err(Refusal::Range);
     }
-    0
+    if !lengths_fit(rows, dim, groups, order, ends, means, out) {
+        return Err(Refusal::Length);
+    }
+    Ok(())
 }
 
 // 10: whether the reader would give this grouping; numbers and lengths are right.
+#[tactic(auto, unfolding(crate::specs::Grouping::content_fits), using(crate::proofs::Puts::to_end))]
 fn content_fits(
     rows: usize,
     dim: usize,
@@ -60,9 +70,10 @@ fn content_fits(
         return false;
     }
     let cells = groups * dim;
-    let a = checks::both(marks::rows_once(order), marks::rises(&ends[..groups], rows));
-    let b = checks::both(a, marks::all_are(&ends[groups..], 65535));
-    checks::both(b, marks::all_zero(&means[cells..]))
+    marks::rows_once(order)
+        && marks::rises(&ends[..groups], rows)
+        && marks::all_are(&ends[groups..], 65535)
+        && marks::all_are(&means[cells..], 0)
 }
 
 fn put_trailer(rows: u32, dim: u32, groups: u32, out: &mut [u8])
@@ -71,7 +82,7 @@ fn put_trailer(rows: u32, dim: u32, groups: u32, out: &mut [u8])
 {
     let ends = rows * 2;
     let cells = [0, ends, ends + groups * 2, rows, dim, groups];
-    words::put_words(&cells, out);
+    words::put_all(&cells, out);
 }
 
 // The three blocks and the trailer.
@@ -94,9 +105,9 @@ fn put_file(
     let a = order.len() * 2;
     let b = a + k * 2;
     let c = b + cells * 4;
-    words::put_halves(order, &mut out[..a]);
-    words::put_halves(&ends[..k], &mut out[a..b]);
-    words::put_words(&means[..cells], &mut out[b..c]);
+    words::put_all(order, &mut out[..a]);
+    words::put_all(&ends[..k], &mut out[a..b]);
+    words::put_all(&means[..cells], &mut out[b..c]);
     put_trailer(rows, dim, groups, &mut out[c..]);
 }
 
@@ -109,12 +120,12 @@ pub fn write_result(
     ends: &[u16],
     means: &[u32],
     out: &mut [u8],
-) -> WriteAnswer
+) -> Result<(), Refusal>
     ensures { let n = length out.old in
         Writes (write_call (stored rows dim groups order.now ends.now means.now) n) n result out.new }
 {
-    cells::fill_bytes(out, 0);
-    let number = refusal(
+    out.fill(0);
+    check(
         rows,
         dim,
         groups,
@@ -122,10 +133,7 @@ pub fn write_result(
         ends.len(),
         means.len(),
         out.len(),
-    );
-    if number != 0 {
-        return WriteAnswer::Refused(number);
-    }
+    )?;
     if !content_fits(
         rows as usize,
         dim as usize,
@@ -134,8 +142,8 @@ pub fn write_result(
         ends,
         means,
     ) {
-        return WriteAnswer::Refused(10);
+        return Err(Refusal::NoResult);
     }
     put_file(rows, dim, groups, order, ends, means, out);
-    WriteAnswer::Written
+    Ok(())
 }

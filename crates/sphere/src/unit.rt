@@ -7,17 +7,17 @@ use crate::root;
 use sums::math;
 
 // Each value times the factor.
+#[tactic(auto, unfolding(crate::specs::Unit::times_all))]
 fn times(row: &mut [f32], factor: f32)
     ensures { row.new ≡ times_all factor row.old }
 {
-    let mut i = 0usize;
-    while i < row.len() {
-        row[i] = row[i] * factor;
-        i += 1;
+    for x in row.iter_mut() {
+        *x *= factor;
     }
 }
 
 // One centroid: times the inverse of the root of its norm, where the norm is above zero.
+#[tactic(auto, unfolding(crate::specs::Unit::unit_row, crate::specs::Unit::unit_if))]
 fn normalize(row: &mut [f32])
     ensures { row.new ≡ unit_row row.old }
 {
@@ -33,16 +33,14 @@ fn normalize_centroids(centroids: &mut [f32], k: usize, dim: usize)
     requires { length centroids.old ≡ k * dim }
     ensures { rows_from dim k centroids.new ≡ map unit_row (rows_from dim k centroids.old) }
 {
-    let mut c = 0usize;
-    while c < k {
+    for c in 0..k {
         let at = c * dim;
-        let end = at + dim;
-        normalize(&mut centroids[at..end]);
-        c += 1;
+        normalize(&mut centroids[at..at + dim]);
     }
 }
 
 // The source's switch: all k centroids, or none.
+#[tactic(auto, unfolding(crate::specs::Unit::sphered))]
 pub fn apply_spherical(spherical: bool, centroids: &mut [f32], k: usize, dim: usize)
     requires { length centroids.old ≡ k * dim }
     ensures { rows_from dim k centroids.new ≡ sphered spherical (rows_from dim k centroids.old) }

@@ -3,6 +3,7 @@ pub mod Tables
 pub mod Rows
 pub mod Fronts
 pub mod Sums
+pub mod Sorts
 pub mod Orders
 pub mod Pairs
 pub mod Passes
@@ -15,5 +16,6 @@ pub mod Counts
 pub mod Picks
 pub mod NanBits
 pub mod Refusing
+pub mod Told
 pub mod Whens
 pub mod Sames

@@ -1,7 +1,7 @@
 -- The ring of draws: the place and the pass of a draw, and what 02 (i) says of draws.
 use Rattle.std.proofs.Common.{◌≡◌, ℕ, suc, ◌+◌, ◌*◌, ◌/◌, ◌%◌, ◌<◌, List, length, get_or, sym, ap, ◌∙◌, mod-eq_of_lt, div-add-mod', arith}
 use native.Mathlib.Nat.{add-mul-mod_self_right, add-mul-div_right, mod_self, zero-mod, div_self, div-eq_of_lt}
-use Rattle.sums.specs.declared.draws.Cursor.{Cursor}
+use Rattle.sums.specs.declared.cursor.Cursor.{Cursor}
 use Rattle.sums.specs.Cells.{Below}
 use Rattle.sums.specs.Draws.{drawn, cursor_at}
 

@@ -1,8 +1,9 @@
--- The turns of `pick`. Assumes nothing.
-use Rattle.std.proofs.Common.{◌≡◌, ℕ, zero, suc, ◌+◌, ◌-◌, ◌%◌, ◌<◌, ◌≤◌, Bool, true, false, eqb, List, length, get_or, set, refl, ◌∙◌, add-zero, add-suc, mod-lt, add-one, arith, length-set, length-take-le, get_or-set_other, get_or-set_same, eqb-true}
+-- The turns of `Draws::pick`. Assumes nothing.
+use Rattle.std.proofs.Common.{◌≡◌, ℕ, zero, suc, ◌+◌, ◌-◌, ◌%◌, ◌<◌, ◌≤◌, Bool, true, false, eqb, List, [], ◌∷◌, length, get_or, set, refl, ◌∙◌, add-zero, add-suc, mod-lt, add-one, arith, length-set, length-take-le, get_or-set_other, get_or-set_same, eqb-true}
 use borrow.Author.Tests.{eqb-false}
-use Rattle.sums.specs.declared.draws.Cursor.{Cursor}
-use Rattle.sums.specs.declared.draws.Draw.{Draw}
+use Rattle.std.specs.List.{swap}
+use Rattle.std.proofs.lemmas.List.{get_or_default}
+use Rattle.sums.specs.declared.cursor.Draws.{Draws}
 use Rattle.sums.proofs.Tables.{get_d_tab, up_length}
 use Rattle.sums.proofs.Belows.{below_take}
 use Rattle.sums.specs.Tables.{up_to}
@@ -22,52 +23,54 @@ below_set m l i v b h k p = go (eqb k i) refl
     go true e = let s : k ≡ i = eqb-true k i e in rw s (let r : i < length l = omega (arith, q) in rw (get_or-set_same l i v 0 r) h)
     go false e = rw (get_or-set_other l i k v 0 (eqb-false k i e)) (b k q)
 
-pub record Picking (draws : List ℕ) (c₀ : Cursor) (count m : ℕ) (places : List ℕ) (cursor : Cursor) (i : ℕ) : Type 0 where
-  pub within : i ≤ count
+-- the library's exchange is the definition's
+swap_is : (i j : ℕ) (places : List ℕ) → i < length places → j < length places → swap places i j ≡ exchange i j places
+unfolding exchange
+swap_is i j [] h k = absurd (omega arith)
+swap_is i j (d ∷ l) h k = rw (get_or_default (d ∷ l) i d 0 h, get_or_default (d ∷ l) j d 0 k) refl
+
+-- i places are picked: those left make of the places what all were to make of them
+pub record Picking (old : Draws) (count m : ℕ) (places : List ℕ) (now : Draws) (i : ℕ) : Type 0 where
+  pub kept : now.list.now ≡ old.list.now
   pub sized : length places ≡ m
-  pub inside : cursor.at < length draws
   pub below : Below m places
-  pub steps : (n : ℕ) → c₀ ≡ cursor_at draws n → (exchanges_from draws m (n + i) i (count - i) places ≡ exchanges_from draws m n 0 count (up_to m)) × (cursor ≡ cursor_at draws (n + i))
+  pub steps : (n : ℕ) → old.cursor ≡ cursor_at old.list.now n → (exchanges_from old.list.now m (n + i) i (count - i) places ≡ exchanges_from old.list.now m n 0 count (up_to m)) × (now.cursor ≡ cursor_at old.list.now (n + i))
 
-pub picking_start : (draws : List ℕ) (c₀ : Cursor) (count m : ℕ) → c₀.at < length draws → Picking draws c₀ count m (up_to m) c₀ 0
-picking_start draws c₀ count m h = record {
-  within = omega arith;
-  sized = up_length m;
-  inside = h;
-  below = below_up m;
-  steps = λ n e. let z : count - 0 ≡ count = omega arith in rw (add-zero, z) (refl, e);
-}
-
-pub picking_begin : (draws : List ℕ) (c₀ : Cursor) (count l : ℕ) (places : List ℕ) → places ≡ up_to l → c₀.at < length draws → Picking draws c₀ count (length places) places c₀ 0
-picking_begin draws c₀ count l places e h =
+pub picking_begin : (old : Draws) (count l : ℕ) (places : List ℕ) → places ≡ up_to l → Picking old count (length places) places old 0
+picking_begin old count l places e =
     let n : length (up_to l) ≡ l = up_length l in
-    rw (e, n) (picking_start draws c₀ count l h)
+    rw (e, n) (record {
+      kept = refl;
+      sized = n;
+      below = below_up l;
+      steps = λ n p. let z : count - 0 ≡ count = omega arith in rw (add-zero, z) (refl, p);
+    })
 
-module _ {draws : List ℕ} {c₀ : Cursor} {count m : ℕ} {places : List ℕ} {cursor : Cursor} {i : ℕ} (h : Picking draws c₀ count m places cursor i) where
-  pub picking_end : count ≤ i → Below m places × Drawn draws c₀ cursor places (λ n. exchanges_from draws m n 0 count (up_to m)) (λ n. n + count)
+module _ {old : Draws} {count m : ℕ} {places : List ℕ} {now : Draws} {i : ℕ} (h : Picking old count m places now i) where
+  pub picking_end : i ≡ count → Below m places × Drawn old now places (λ n. exchanges_from old.list.now m n 0 count (up_to m)) (λ n. n + count)
   unfolding exchanges_from
-  picking_end l =
-      let e : i ≡ count = omega (arith, h.within) in
+  picking_end e =
       let z : count - count ≡ 0 = omega arith in
-      (h.below, record { inside = h.inside; steps = λ n p. (rw (e, z) at (h.steps n p).0, rw e at (h.steps n p).1) })
+      (h.below, record { kept = h.kept; steps = λ n p. (rw (e, z) at (h.steps n p).0, rw e at (h.steps n p).1) })
 
-  module _ (l : i < count) (fits : count ≤ m) (j x : ℕ) (e : j ≡ i + x % (m - i)) where
-    pub picking_room : j < m
-    picking_room = omega (arith, mod-lt x {m = m - i} (omega arith))
+  exchanged : (x j : ℕ) (after : Draws) → i < count → j < m → j ≡ i + x % (m - i) → Drawn now after x (λ n. drawn now.list.now n) (λ n. suc n) → Picking old count m (exchange i j places) after (i + 1)
+  unfolding exchange exchanges_from
+  exchanged x j after l k e d =
+      record {
+        kept = d.kept ∙ h.kept;
+        sized = simp length-set h.sized;
+        below = below_set m (set places i (get_or places j 0)) j (get_or places i 0) (below_set m places i (get_or places j 0) h.below (h.below j (omega (arith, h.sized, k)))) (h.below i (omega (arith, h.sized, k, e)));
+        steps = λ n p.
+            let w = rw h.kept at (d.steps (n + i) (rw h.kept (h.steps n p).1)) in
+            let z : count - i ≡ suc (count - suc i) = omega arith in
+            let g : j ≡ i + drawn old.list.now (n + i) % (m - i) = e ∙ rw w.0 refl in
+            (rw (add-one i, add-suc n i, g) (rw z at (h.steps n p).0), rw (add-one i, add-suc n i) w.1);
+      }
 
-    pub picking_step : (d : Draw) → x ≡ d.number → Drawn draws cursor d.next d.number (λ n. drawn draws n) (λ n. suc n) → Picking draws c₀ count m (exchange i j places) d.next (i + 1)
-    unfolding exchange exchanges_from
-    picking_step d f s = record {
-      within = omega arith;
-      sized = simp length-set h.sized;
-      inside = s.inside;
-      below = below_set m (set places i (get_or places j 0)) j (get_or places i 0) (below_set m places i (get_or places j 0) h.below (h.below j (omega (arith, h.sized, picking_room)))) (h.below i (omega (arith, h.sized)));
-      steps = λ n p.
-          let w = s.steps (n + i) (h.steps n p).1 in
-          let z : count - i ≡ suc (count - suc i) = omega arith in
-          let g : j ≡ i + drawn draws (n + i) % (m - i) = e ∙ rw (f, w.0) in
-          (rw (add-one i, add-suc n i, g) (rw z at (h.steps n p).0), rw (add-one i, add-suc n i) w.1);
-    }
+  pub picking_step : (x j : ℕ) (after : Draws) → i < count → count ≤ m → j ≡ i + x % (m - i) → Drawn now after x (λ n. drawn now.list.now n) (λ n. suc n) → Picking old count m (swap places i j) after (i + 1)
+  picking_step x j after l fits e d =
+      let k : j < m = omega (arith, mod-lt x {m = m - i} (omega arith)) in
+      rw (swap_is i j places (omega (arith, h.sized)) (omega (arith, h.sized))) (exchanged x j after l k e d)
 
 -- ---- picks: as many as asked for
 module _ (draws : List ℕ) (m : ℕ) where

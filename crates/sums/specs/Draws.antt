@@ -1,7 +1,8 @@
 -- 01, 'Draws'. The state of the draws is how many a call has made so far: a call starts at none, and training, restarts and splits go on from there.
-use Rattle.std.specs.Prelude.{◌≡◌, ℕ, zero, suc, ◌+◌, ◌-◌, ◌/◌, ◌%◌, ◌<◌, List, length, take, slice_index, slice_set}
+use Rattle.std.specs.Prelude.{◌≡◌, ℕ, zero, suc, ◌+◌, ◌-◌, ◌/◌, ◌%◌, List, length, take, slice_index, slice_set}
 use Rattle.sums.specs.Tables.{up_to}
-use Rattle.sums.specs.declared.draws.Cursor.{Cursor}
+use Rattle.sums.specs.declared.cursor.Cursor.{Cursor}
+use Rattle.sums.specs.declared.cursor.Draws.{Draws}
 
 -- Draw number n of a call, from 0: the list is gone through again and again, and on pass p, from 0, the draw is the listed number plus p, wrapping
 -- at 32 bits (02 (i)). No other line knows this rule but `cursor_at`.
@@ -26,7 +27,8 @@ exchanges_from draws m n i (suc c) places =
 unfoldable pub pick : List ℕ → ℕ → ℕ → ℕ → List ℕ
 pick draws n c m = take c (exchanges_from draws m n 0 c (up_to m))
 
--- What is done with draws from a cursor on: whatever the count n of draws before it, it gives `given n`, and the cursor then stands for `made n` draws.
-pub record Drawn {A : Type 0} (draws : List ℕ) (cursor r : Cursor) (value : A) (given : ℕ → A) (made : ℕ → ℕ) : Type 0 where
-  pub inside : r.at < length draws
-  pub steps : (n : ℕ) → cursor ≡ cursor_at draws n → (value ≡ given n) × (r ≡ cursor_at draws (made n))
+-- What is done from one state of the draws to the next, of one list: whatever the count n of draws before it, it gives `given n`, and the cursor then
+-- stands for `made n` draws.
+pub record Drawn {A : Type 0} (old new : Draws) (value : A) (given : ℕ → A) (made : ℕ → ℕ) : Type 0 where
+  pub kept : new.list.now ≡ old.list.now
+  pub steps : (n : ℕ) → old.cursor ≡ cursor_at old.list.now n → (value ≡ given n) × (new.cursor ≡ cursor_at old.list.now (made n))

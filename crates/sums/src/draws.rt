@@ -4,14 +4,8 @@ ghost use Rattle.sums.specs.Tables.{up_to};
 ghost use Rattle.sums.specs.Cells.{Below};
 ghost use Rattle.sums.specs.Draws.{drawn, cursor_at, exchanges_from, Drawn};
 
-use crate::{cells, numbers};
-
-// The place in the draw list, and how often the list was gone through before.
-#[derive(Clone, Copy)]
-pub struct Cursor {
-    pub at: usize,
-    pub pass: u32,
-}
+use crate::cells;
+use crate::cursor::{Cursor, Draws};
 
 // A number drawn, and the place after it.
 #[derive(Clone, Copy)]
@@ -31,18 +25,20 @@ impl Cursor {
     // The next number and the next cursor; after the last number comes the first again, each one more than on the pass before.
     pub fn draw(self, draws: &[u32]) -> Draw
         requires { self.at < length draws.now }
-        ensures { Drawn draws.now self result.next result.number (λ n. drawn draws.now n) (λ n. suc n) }
+        ensures inside { result.next.at < length draws.now }
+        ensures steps { (n : ℕ) → self ≡ cursor_at draws.now n
+            → (result.number ≡ drawn draws.now n) × (result.next ≡ cursor_at draws.now (suc n)) }
     {
-        let at = self.at;
-        let pass = self.pass;
-        let listed = draws[at];
-        let number = std::num::wrapping_add_u32(listed, pass);
+        let Cursor { at, pass } = self;
+        let number = draws[at].wrapping_add(pass);
         let next = at + 1;
         if next == draws.len() {
-            let after = std::num::wrapping_add_u32(pass, 1);
             return Draw {
                 number,
-                next: Cursor { at: 0, pass: after },
+                next: Cursor {
+                    at: 0,
+                    pass: pass.wrapping_add(1),
+                },
             };
         }
         Draw {
@@ -52,26 +48,41 @@ impl Cursor {
     }
 }
 
-// Picks `count` of the numbers below the slice's length: they stand in front.
-pub fn pick(draws: &[u32], from: Cursor, places: &mut [u16], count: usize) -> Cursor
-    requires { (from.at < length draws.now) × ((count ≤ length places.old) × (length places.old ≤ 65536)) }
-    ensures below { Below (length places.old) places.new }
-    ensures fact { let m = length places.old in
-        Drawn draws.now from result places.new (λ n. exchanges_from draws.now m n 0 count (up_to m)) (λ n. n + count) }
-{
-    cells::count_up(places);
-    let m = places.len();
-    let mut cursor = from;
-    let mut i = 0usize;
-    while i < count {
-        let drawn = cursor.draw(draws);
-        let j = i + numbers::index(drawn.number) % (m - i);
-        let a = places[i];
-        places[i] = places[j];
-        places[j] = a;
-        let next = drawn.next;
-        cursor = next;
-        i += 1;
+impl<'a> Draws<'a> {
+    // Where a call starts.
+    pub fn new(list: &'a [u32]) -> Draws<'a>
+        requires { 0 < length list.now }
+        ensures lent { result.list.now ≡ list.now }
+        ensures start { result.cursor ≡ cursor_at list.now 0 }
+    {
+        Draws {
+            list,
+            cursor: Cursor::new(),
+        }
     }
-    cursor
+
+    // The next number.
+    pub fn draw(&mut self) -> u32
+        ensures { Drawn self.old self.new result (λ n. drawn self.old.list.now n) (λ n. suc n) }
+    {
+        let drawn = self.cursor.draw(self.list);
+        self.cursor = drawn.next;
+        drawn.number
+    }
+
+    // Picks `count` of the numbers below the slice's length: they stand in front.
+    pub fn pick(&mut self, places: &mut [u16], count: usize)
+        requires { (count ≤ length places.old) × (length places.old ≤ 65536) }
+        ensures below { Below (length places.old) places.new }
+        ensures fact { let m = length places.old in let draws = self.old.list.now in
+            Drawn self.old self.new places.new (λ n. exchanges_from draws m n 0 count (up_to m)) (λ n. n + count) }
+    {
+        cells::count_up(places);
+        let m = places.len();
+        for i in 0..count {
+            let number = self.draw();
+            let j = i + number as usize % (m - i);
+            places.swap(i, j);
+        }
+    }
 }

@@ -4,8 +4,10 @@
 
 pub mod bits;
 pub mod cells;
-pub mod checks;
+pub mod cursor;
 pub mod draws;
 pub mod math;
-pub mod numbers;
+pub mod ordering;
+pub mod readings;
+pub mod refusals;
 pub mod rooms;

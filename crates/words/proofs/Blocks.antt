@@ -5,22 +5,19 @@ use mathlib.Core.List.{List, [], ◌∷◌, ◌++◌, map, flat_map, append-nil,
 use native.Mathlib.Numerals.{add-one}
 use native.Mathlib.Nat.{suc-mul, zero-mul}
 use native.Mathlib.Omega.{arith}
-use lib.ListN.{length, get_or, set, take, drop, length-append, length-drop}
-use lib.Seq.{take-suc, take_all, take_at, drop_at, take-add, length-take-le, sets-eq}
-use Rattle.sums.specs.Tables.{tabulate}
+use lib.ListN.{length, get_or, take, drop, length-append, length-drop}
+use lib.Seq.{take-suc, take_at, drop_at, take-add, length-take-le}
 use Rattle.sums.specs.Cells.{Below}
 use Rattle.sums.specs.Rows.{rows_from}
 use Rattle.sums.proofs.Tables.{length_tab}
-use Rattle.sums.proofs.Rows.{map_rows, rows_front}
+use Rattle.sums.proofs.Rows.{rows_front}
 use Rattle.sums.proofs.Fronts.{flat_append}
 use Rattle.sums.proofs.Belows.{below_head, below_tail, below_take, below_drop}
 use Rattle.words.specs.Bytes.{number_of, u16_at, halves_from, bytes16, bytes32}
+use Rattle.words.specs.Laws.{halves_tab}
 use Rattle.words.proofs.ByteLaws.{next}
 
 -- ---- 16 bits by index
-pub halves_tab : (n : ℕ) (bytes : List ℕ) → halves_from n bytes ≡ tabulate (λ i. u16_at bytes (i * 2)) n
-halves_tab n bytes = map_rows number_of 2 n bytes
-
 pub halves_length : (n : ℕ) (bytes : List ℕ) → length (halves_from n bytes) ≡ n
 halves_length n bytes = ap length (halves_tab n bytes) ∙ length_tab _ n
 
@@ -32,36 +29,24 @@ two bytes at h =
     ∙ ap (λ (l : List ℕ). get_or bytes at 0 ∷ l) (next bytes (at + 1) (at + 2) (omega arith) (omega arith)))
     ∙ omega arith
 
--- ---- four bytes put
-pub four_bytes : (out : List ℕ) (at a b c d : ℕ) → at + 4 ≤ length out
-    → set (set (set (set out at a) (at + 1) b) (at + 2) c) (at + 3) d ≡ take at out ++ (a ∷ b ∷ c ∷ d ∷ drop (at + 4) out)
-four_bytes out at a b c d h =
-    let e1 : at + 1 ≡ suc at = omega arith in
-    let e2 : at + 2 ≡ suc (suc at) = omega arith in
-    let e3 : at + 3 ≡ suc (suc (suc at)) = omega arith in
-    rw (e1, e2, e3) (sets-eq (a ∷ b ∷ c ∷ d ∷ []) out at h ∙ append_assoc (take at out) (a ∷ b ∷ c ∷ d ∷ []) (drop (at + 4) out))
-
 -- ---- a block: each number as w bytes
 front_bytes : (r mid rest : List ℕ) (at w : ℕ) → at ≤ length r → length mid ≡ w → take (at + w) (take at r ++ (mid ++ rest)) ≡ take at r ++ mid
 front_bytes r mid rest at w h e =
     rw (← append_assoc (take at r) mid rest)
     (take_at (take at r ++ mid) rest (at + w) (length-append (take at r) mid ∙ rw (length-take-le at r h, e)))
 
-module _ (f : ℕ → List ℕ) (w : ℕ) (sized : (x : ℕ) → length (f x) ≡ w) where
-  -- a turn of a loop that writes a block, and its end
-  pub block_more : (cells r r' : List ℕ) (i : ℕ) → take (i * w) r ≡ flat_map f (take i cells) → i * w + w ≤ length r → i < length cells
-      → r' ≡ take (i * w) r ++ (f (get_or cells i 0) ++ drop (i * w + w) r) → take ((i + 1) * w) r' ≡ flat_map f (take (i + 1) cells)
+module _ {A : Type 0} (f : A → List ℕ) (w : ℕ) (sized : (x : A) → length (f x) ≡ w) where
+  -- a turn of a loop that writes a block
+  pub block_more : (cells : List A) (r r' : List ℕ) (i : ℕ) (x : A) → take (i * w) r ≡ flat_map f (take i cells) → i * w + w ≤ length r → i < length cells → x ≡ get_or cells i x
+      → r' ≡ take (i * w) r ++ (f x ++ drop (i * w + w) r) → take ((i + 1) * w) r' ≡ flat_map f (take (i + 1) cells)
   unfolding flat_map
-  block_more cells r r' i done room h e =
+  block_more cells r r' i x done room h is e =
       let n : (i + 1) * w ≡ i * w + w = rw (add-one i) (suc-mul i w) in
-      rw (n, e, add-one i, take-suc cells i 0 h, flat_append f (take i cells) (get_or cells i 0 ∷ []), append-nil (f (get_or cells i 0)), ← done)
-      (front_bytes r (f (get_or cells i 0)) (drop (i * w + w) r) (i * w) w (omega arith) (sized (get_or cells i 0)))
+      let more : take (i + 1) cells ≡ take i cells ++ (x ∷ []) = rw (add-one i) (take-suc cells i x h ∙ ap (λ y. take i cells ++ (y ∷ [])) (sym is)) in
+      rw (n, e, more, flat_append f (take i cells) (x ∷ []), append-nil (f x), ← done)
+      (front_bytes r (f x) (drop (i * w + w) r) (i * w) w (omega arith) (sized x))
 
-  pub block_done : (cells r : List ℕ) (i : ℕ) → take (i * w) r ≡ flat_map f (take i cells) → length r ≡ length cells * w → i ≡ length cells → r ≡ flat_map f cells
-  block_done cells r i done long e =
-      let k : length r ≤ i * w = rw (e, long) (omega arith) in
-      sym (take_all (i * w) r k) ∙ done ∙ ap (flat_map f) (take_all i cells (omega arith))
-
+module _ (f : ℕ → List ℕ) (w : ℕ) (sized : (x : ℕ) → length (f x) ≡ w) where
   -- what was written is read
   pub block_read : ((x : ℕ) → number_of (f x) ≡ x) → (l rest : List ℕ) → map number_of (rows_from w (length l) (flat_map f l ++ rest)) ≡ l
   unfolding rows_from flat_map

@@ -1,22 +1,16 @@
--- Words and floats by index; four bytes read, two written. Assumes nothing.
-use Prim.Native.Nat.{ℕ, suc, ◌+◌, ◌*◌, ◌≤◌, ◌<◌}
+-- Words and floats by index; four bytes read. Assumes nothing.
+use Prim.Native.Nat.{ℕ, ◌+◌, ◌*◌, ◌≤◌, ◌<◌}
 use mathlib.Core.Path.{◌≡◌, refl, ap, ◌∙◌}
-use mathlib.Core.List.{List, [], ◌∷◌, ◌++◌, map}
+use mathlib.Core.List.{List, ◌∷◌, map}
 use native.Mathlib.Numerals.{add-one}
 use native.Mathlib.Omega.{arith}
-use lib.ListN.{length, take, drop, get_or, set, length-append}
-use lib.Seq.{drop-cons, set_split, set_at, append_snoc, length-take-le}
+use lib.ListN.{length, take, drop, get_or}
+use lib.Seq.{drop-cons}
 use lib.Ieee.{Float, binary32, of_bits}
 use Rattle.words.specs.Bytes.{number_of, u32_at, words_from, floats_from}
-use Rattle.sums.specs.Tables.{tabulate}
-use Rattle.sums.proofs.Tables.{map_tab, length_tab, get_d_tab}
-use Rattle.sums.proofs.Rows.{map_rows, rows_front}
-
-pub words_tab : (n : ℕ) (bytes : List ℕ) → words_from n bytes ≡ tabulate (λ i. u32_at bytes (i * 4)) n
-words_tab n bytes = map_rows number_of 4 n bytes
-
-pub floats_tab : (n : ℕ) (bytes : List ℕ) → floats_from n bytes ≡ tabulate (λ i. of_bits binary32 (u32_at bytes (i * 4))) n
-floats_tab n bytes = rw (words_tab n bytes) (map_tab (of_bits binary32) (λ i. u32_at bytes (i * 4)) n)
+use Rattle.words.specs.Laws.{words_tab, floats_tab}
+use Rattle.sums.proofs.Tables.{length_tab, get_d_tab}
+use Rattle.sums.proofs.Rows.{rows_front}
 
 pub words_length : (n : ℕ) (bytes : List ℕ) → length (words_from n bytes) ≡ n
 words_length n bytes = ap length (words_tab n bytes) ∙ length_tab _ n
@@ -57,12 +51,3 @@ four bytes at h =
     (next bytes (at + 2) (at + 3) (omega arith) (omega arith)
     ∙ ap (λ (l : List ℕ). get_or bytes (at + 2) 0 ∷ l) (next bytes (at + 3) (at + 4) (omega arith) (omega arith)))))
     ∙ omega arith
-
--- ---- two bytes
-pub two_bytes : (out : List ℕ) (at a b : ℕ) → at + 2 ≤ length out → set (set out at a) (at + 1) b ≡ take at out ++ (a ∷ b ∷ drop (at + 2) out)
-two_bytes out at a b h =
-    let e : suc (at + 1) ≡ at + 2 = omega arith in
-    let d = drop-cons out (at + 1) 0 (omega arith) in
-    rw (set_split out at a (omega arith), ← (add-one at), d, e, ← (append_snoc (take at out) a (get_or out (at + 1) 0 ∷ drop (at + 2) out)))
-    (set_at (take at out ++ (a ∷ [])) (get_or out (at + 1) 0) (drop (at + 2) out) b (at + 1) (simp length-append (omega (arith, length-take-le at out (omega arith))))
-    ∙ append_snoc (take at out) a (b ∷ drop (at + 2) out))

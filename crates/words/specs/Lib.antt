@@ -1,2 +1,3 @@
 -- Little-endian bytes as definitions.
 pub mod Bytes
+pub mod Laws

@@ -1,114 +1,140 @@
 // Numbers of 16 and 32 bits and floats out of little-endian bytes, and numbers into bytes: what files and exported functions are read and written by.
 #![tactic(auto)]
 
-ghost use Rattle.std.specs.Prelude.{◌≡◌, ◌+◌, ◌*◌, ◌≤◌, ◌<◌, length, take, drop};
+ghost use Rattle.std.specs.Prelude.{ℕ, ◌≡◌, ◌+◌, ◌*◌, ◌≤◌, List, length, take, drop, refl};
+ghost use Rattle.std.specs.Float.{binary32};
+ghost use Rattle.std.specs.Float.Ieee.{of_bits};
 ghost use mathlib.Core.List.{◌++◌, flat_map};
-ghost use Rattle.words.specs.Bytes.{u16_at as u16_at_lem, u32_at, halves_from, floats_from, words_from, bytes16, bytes32};
+ghost use Rattle.sums.specs.Tables.{tabulate};
+ghost use Rattle.words.specs.Bytes.{u16_at, u32_at, halves_from, floats_from, words_from, bytes16, bytes32};
+ghost use Rattle.words.specs.Laws.{halves_tab, words_tab, floats_tab};
 
-fn wide(byte: u8) -> u32
-    ensures { (result ≡ byte) × (result < 256) }
-{
-    byte as u32
+// What is read from so many bytes, the lowest first.
+pub trait FromBytes: Copy {
+    const SIZE: usize;
+
+    ghost SIZE: { ℕ };
+
+    // The value whose bytes start at a place.
+    ghost value: { List ℕ → ℕ → Self };
+
+    // So many values, one after the other.
+    ghost values: { ℕ → List ℕ → List Self };
+
+    fn read_at(bytes: &[u8], at: usize) -> Self
+        requires { at + SIZE ≤ length bytes.now }
+        ensures { result ≡ value bytes.now at };
+
+    ghost each: { (n : ℕ) (bytes : List ℕ) → values n bytes ≡ tabulate (λ i. value bytes (i * SIZE)) n };
 }
 
-// The 32-bit number of four bytes from `at` on.
-pub fn u32_at(bytes: &[u8], at: usize) -> u32
-    requires { at + 4 ≤ length bytes.now }
-    ensures { result ≡ u32_at bytes.now at }
-{
-    let a = wide(bytes[at]);
-    let b = wide(bytes[at + 1]);
-    let c = wide(bytes[at + 2]);
-    let d = wide(bytes[at + 3]);
-    a + 256 * (b + 256 * (c + 256 * d))
-}
+impl FromBytes for u16 {
+    const SIZE: usize = 2;
 
-// The 16-bit number of two bytes from `at` on.
-pub fn u16_at(bytes: &[u8], at: usize) -> u16
-    requires { at + 2 ≤ length bytes.now }
-    ensures { result ≡ u16_at_lem bytes.now at }
-{
-    let low = wide(bytes[at]);
-    let high = wide(bytes[at + 1]);
-    (low + 256 * high) as u16
-}
+    ghost SIZE = { 2 };
 
-// A float from each four bytes.
-pub fn floats_of(bytes: &[u8], out: &mut [f32])
-    requires { length bytes.now ≡ length out.old * 4 }
-    ensures { out.new ≡ floats_from (length out.old) bytes.now }
-{
-    let mut i = 0usize;
-    while i < out.len() {
-        out[i] = sums::bits::float_of(u32_at(bytes, i * 4));
-        i += 1;
+    ghost value = { u16_at };
+
+    ghost values = { halves_from };
+
+    ghost each = { halves_tab };
+
+    fn read_at(bytes: &[u8], at: usize) -> u16 {
+        u16::from_le_bytes([bytes[at], bytes[at + 1]])
     }
 }
 
-// A number from each four bytes.
-pub fn words_of(bytes: &[u8], out: &mut [u32])
-    requires { length bytes.now ≡ length out.old * 4 }
-    ensures { out.new ≡ words_from (length out.old) bytes.now }
-{
-    let mut j = 0usize;
-    while j < out.len() {
-        out[j] = u32_at(bytes, j * 4);
-        j += 1;
+impl FromBytes for u32 {
+    const SIZE: usize = 4;
+
+    ghost SIZE = { 4 };
+
+    ghost value = { u32_at };
+
+    ghost values = { words_from };
+
+    ghost each = { words_tab };
+
+    fn read_at(bytes: &[u8], at: usize) -> u32 {
+        u32::from_le_bytes([bytes[at], bytes[at + 1], bytes[at + 2], bytes[at + 3]])
     }
 }
 
-// A number from each two bytes.
-pub fn halves_of(bytes: &[u8], out: &mut [u16])
-    requires { length bytes.now ≡ length out.old * 2 }
-    ensures { out.new ≡ halves_from (length out.old) bytes.now }
-{
-    let mut h = 0usize;
-    while h < out.len() {
-        out[h] = u16_at(bytes, h * 2);
-        h += 1;
+impl FromBytes for f32 {
+    const SIZE: usize = 4;
+
+    ghost SIZE = { 4 };
+
+    ghost value = { λ bytes at. of_bits binary32 (u32_at bytes at) };
+
+    ghost values = { floats_from };
+
+    ghost each = { floats_tab };
+
+    fn read_at(bytes: &[u8], at: usize) -> f32 {
+        sums::bits::float_of(u32::read_at(bytes, at))
     }
 }
 
-// The lower byte first.
-pub fn put_u16(out: &mut [u8], at: usize, n: u16)
-    requires { at + 2 ≤ length out.old }
-    ensures { out.new ≡ take at out.old ++ (bytes16 n ++ drop (at + 2) out.old) }
+// A value from each so many bytes.
+pub fn read_all<T: FromBytes>(bytes: &[u8], out: &mut [T])
+    requires { length bytes.now ≡ length out.old * T.SIZE }
+    ensures { out.new ≡ T.values (length out.old) bytes.now }
 {
-    out[at] = (n % 256) as u8;
-    out[at + 1] = (n / 256) as u8;
-}
-
-// The lowest byte first.
-pub fn put_u32(out: &mut [u8], at: usize, word: u32)
-    requires { at + 4 ≤ length out.old }
-    ensures { out.new ≡ take at out.old ++ (bytes32 word ++ drop (at + 4) out.old) }
-{
-    out[at] = (word % 256) as u8;
-    out[at + 1] = (word / 256 % 256) as u8;
-    out[at + 2] = (word / 65536 % 256) as u8;
-    out[at + 3] = (word / 16777216) as u8;
-}
-
-// Two bytes for each number.
-pub fn put_halves(cells: &[u16], out: &mut [u8])
-    requires { length out.old ≡ length cells.now * 2 }
-    ensures { out.new ≡ flat_map bytes16 cells.now }
-{
-    let mut p = 0usize;
-    while p < cells.len() {
-        put_u16(out, p * 2, cells[p]);
-        p += 1;
+    for (i, x) in out.iter_mut().enumerate() {
+        *x = T::read_at(bytes, i * T::SIZE);
     }
 }
 
-// Four bytes for each number.
-pub fn put_words(cells: &[u32], out: &mut [u8])
-    requires { length out.old ≡ length cells.now * 4 }
-    ensures { out.new ≡ flat_map bytes32 cells.now }
+// What is written as so many bytes, the lowest first.
+pub trait ToBytes: Copy {
+    const SIZE: usize;
+
+    ghost SIZE: { ℕ };
+
+    ghost bytes: { Self → List ℕ };
+
+    fn put_at(self, out: &mut [u8], at: usize)
+        requires { at + SIZE ≤ length out.old }
+        ensures { out.new ≡ take at out.old ++ (bytes self ++ drop (at + SIZE) out.old) };
+
+    ghost sized: { (x : Self) → length (bytes x) ≡ SIZE };
+}
+
+impl ToBytes for u16 {
+    const SIZE: usize = 2;
+
+    ghost SIZE = { 2 };
+
+    ghost bytes = { bytes16 };
+
+    ghost sized = { λ x. refl };
+
+    fn put_at(self, out: &mut [u8], at: usize) {
+        out[at..at + 2].copy_from_slice(&self.to_le_bytes());
+    }
+}
+
+impl ToBytes for u32 {
+    const SIZE: usize = 4;
+
+    ghost SIZE = { 4 };
+
+    ghost bytes = { bytes32 };
+
+    ghost sized = { λ x. refl };
+
+    fn put_at(self, out: &mut [u8], at: usize) {
+        out[at..at + 4].copy_from_slice(&self.to_le_bytes());
+    }
+}
+
+// So many bytes for each value.
+pub fn put_all<T: ToBytes>(cells: &[T], out: &mut [u8])
+    requires { length out.old ≡ length cells.now * T.SIZE }
+    ensures { out.new ≡ flat_map T.bytes cells.now }
 {
-    let mut w = 0usize;
-    while w < cells.len() {
-        put_u32(out, w * 4, cells[w]);
-        w += 1;
+    for (i, x) in cells.iter().enumerate() {
+        x.put_at(out, i * T::SIZE);
     }
 }

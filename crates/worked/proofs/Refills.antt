@@ -11,7 +11,8 @@ use Rattle.sums.specs.Sums.{one32}
 use Rattle.sums.specs.Draws.{drawn}
 use Rattle.sums.specs.Tables.{up_to}
 use Rattle.sphere.specs.Unit.{sphered}
-use Rattle.labels.specs.declared.nearest.Placement.{Placement}
+use Rattle.std.specs.Prelude.{Option}
+use Rattle.labels.specs.declared.nearest.Nearest.{Nearest}
 use Rattle.labels.specs.Label.{nearests, labels_of, distances_of}
 use Rattle.labels.specs.Pool.{pool}
 use Rattle.kmeans.specs.Steps.{Fit, counts_from, update, iterate}
@@ -21,7 +22,7 @@ use Rattle.worked.proofs.Opened.{opened}
 use Rattle.worked.proofs.Settled.{at}
 
 -- each row against its cluster
-abbrev found : List Placement
+abbrev found : List (Option Nearest)
 found = nearests (alike 10) (alike 10)
 
 -- a run, from the first ten picked on: ten draws pick the centroids

@@ -9,7 +9,7 @@ use Rattle.sums.specs.Rows.{rows_from}
 use Rattle.sums.specs.Refusals.{Answer, accepted, refused, on_accepted, padded, blank_cell}
 use Rattle.labels.specs.declared.mode.Mode.{Mode}
 use Rattle.labels.specs.declared.mode.Mode.TheVariants.{Strict, OldWay}
-use Rattle.labels.specs.declared.nearest.Placement.TheVariants.{Unplaced}
+use Rattle.std.specs.Prelude.{None}
 use Rattle.labels.specs.Label.{labels_of}
 use Rattle.labels.specs.Call.{label_call}
 use Rattle.kmeans.specs.declared.config.KMeansConfig.{KMeansConfig}
@@ -96,7 +96,7 @@ pub record Table : Type 0 where
   pub P7 : labels OldWay nan one32 two32 ≡ accepted (0 ∷ [])
   pub P7-strict : labels Strict nan one32 two32 ≡ refused 9
   -- and 02 (ii) says of it that it matched nothing
-  pub P7-unplaced : label_call OldWay 1 1 2 (nan ∷ []) (one32 ∷ two32 ∷ []) 1 1 ≡ accepted (Unplaced ∷ [])
+  pub P7-unplaced : label_call OldWay 1 1 2 (nan ∷ []) (one32 ∷ two32 ∷ []) 1 1 ≡ accepted (None ∷ [])
   -- the third centroid is at -1
   pub P8 : closure_call zero32 3 1 3 (zero32 ∷ []) (two32 ∷ one32 ∷ fin true 1 (pos 0) ∷ []) 3 ≡ accepted (1 ∷ 2 ∷ [])
   pub P8-wide : closure_call one32 3 1 3 (zero32 ∷ []) (two32 ∷ one32 ∷ fin true 1 (pos 0) ∷ []) 3 ≡ accepted (1 ∷ 2 ∷ 0 ∷ [])

@@ -1,32 +1,34 @@
-use Prim.Native.Nat.{◌/◌, ◌≤◌, ◌<◌}
-use mathlib.Core.Path.{◌≡◌}
-use mathlib.Core.Bool.{cond}
-use mathlib.Core.List.{[]}
-use lib.ListN.{length, get_or}
-use Rattle.sums.specs.Rows.{rows_from}
-use Rattle.sums.proofs.Rows.{rows_length, part_row}
-use Rattle.replay.specs.Replay.{agrees, agreeing, replayed}
-use Rattle.replay.proofs.Agreeing.{count_on, count_end}
+use mathlib.Core.Path.{◌≡◌, sym, ◌∙◌}
+use Rattle.replay.specs.Replay.{replayed}
+use Rattle.replay.proofs.Agreeing.{agreeing_in, one_more, count_on, count_end}
 use native.Mathlib.Omega.{arith}
 use Rattle.replay.proofs.replay.Goals as goal
 
-pub loop-i-preserved : goal.loop-i-preserved
-loop-i-preserved c =
-    let s = c.args.sample.now in
-    let n = length s / 384 in
-    let rs = rows_from 384 n s in
-    let h : c.loop-i.i < n = omega arith in
-    let e : c.counted-agree.result ≡ cond (agrees (get_or rs c.loop-i.i [])) 1 0 = rw (part_row 384 n s c.loop-i.i h) at c.counted-agree.ensures.0 in
-    let on = count_on rs c.loop-i.i (rw (rows_length 384 n s) h) in
-    (omega arith, (omega (arith, c.counted-agree.ensures.1), omega (arith, e, on, c.loop-i.invariant.1.1)))
+pub loop-record-preserved-then-agrees : goal.loop-record-preserved-then-agrees
+loop-record-preserved-then-agrees c =
+    let s = c.in-Some.ensures.steps in
+    let l = s.1.1 ∙ c.loop-record.invariant.0 in
+    let more = one_more _ _ _ s.1.0 l in
+    let on = rw (sym c.agrees.ensures ∙ c.if-agrees.true) at (count_on _ _ _ s.1.0 l) in
+    (s.0 ∙ c.loop-record.invariant.0, (omega (arith, more, c.loop-record.invariant.1.0), omega (arith, on, c.loop-record.invariant.1.1)))
+
+pub loop-record-preserved : goal.loop-record-preserved
+loop-record-preserved c =
+    let s = c.in-Some.ensures.steps in
+    let l = s.1.1 ∙ c.loop-record.invariant.0 in
+    let more = one_more _ _ _ s.1.0 l in
+    let on = rw (sym c.agrees.ensures ∙ c.if-agrees.false) at (count_on _ _ _ s.1.0 l) in
+    (s.0 ∙ c.loop-record.invariant.0, (omega (arith, more, c.loop-record.invariant.1.0), omega (arith, on, c.loop-record.invariant.1.1)))
+
+pub overflow_add-agree : goal.overflow_add-agree
+overflow_add-agree c =
+    let s = c.in-Some.ensures.steps in
+    let more = one_more _ _ _ s.1.0 (s.1.1 ∙ c.loop-record.invariant.0) in
+    omega (arith, more, c.loop-record.invariant.1.0)
 
 pub returns : goal.returns
 unfolding replayed
 returns c =
-    let s = c.args.sample.now in
-    let n = length s / 384 in
-    let rs = rows_from 384 n s in
-    let h : n ≤ c.loop-i.i = omega arith in
-    let end = count_end rs c.loop-i.i (rw (rows_length 384 n s) h) in
-    let e : c.loop-i.agree ≡ agreeing rs = omega (arith, end, c.loop-i.invariant.1.1) in
+    let end = count_end c.loop-record.record-iterator.rest.now (omega (arith, c.in-None.ensures.steps.1.0, c.loop-record.invariant.0)) in
+    let e : c.loop-record.agree ≡ agreeing_in c.args.sample.now = omega (arith, end, c.loop-record.invariant.1.1) in
     rw e

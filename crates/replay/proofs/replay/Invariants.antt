@@ -1,12 +1,10 @@
-use Prim.Native.Nat.{◌+◌, ◌-◌, ◌≤◌}
+use Prim.Native.Nat.{◌+◌, ◌/◌, ◌≤◌}
 use mathlib.Core.Path.{◌≡◌}
-use lib.ListN.{drop}
-use Rattle.sums.specs.Rows.{rows_from}
-use Rattle.replay.specs.Replay.{agreeing}
+use lib.ListN.{length}
+use Rattle.replay.proofs.Agreeing.{agreeing_in}
 use Rattle.replay.proofs.replay.Given as goal
 
-abbrev pub invariant-loop-i : goal.invariant-loop-i
-invariant-loop-i l = (l.i ≤ l.cases) × ((l.agree ≤ l.i) × (l.agree + agreeing (drop l.i (rows_from 384 l.cases l.sample)) ≡ agreeing (rows_from 384 l.cases l.sample)))
-
-abbrev pub decreases-loop-i : goal.decreases-loop-i
-decreases-loop-i l = l.cases - l.i
+abbrev pub invariant-loop-record : goal.invariant-loop-record
+invariant-loop-record l =
+    let rest = l.record-iterator.rest.now in
+    (l.record-iterator.size ≡ 384) × ((l.agree + length rest / 384 ≤ length l.sample / 384) × (l.agree + agreeing_in rest ≡ agreeing_in l.sample))

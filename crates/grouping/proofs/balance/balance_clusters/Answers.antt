@@ -8,7 +8,7 @@ use lib.Ieee.{of_bits, in_float}
 use lib.ListN.{length, get_or}
 use lib.Dec.{le→leb}
 use mathlib.Core.Logic.{inl, inr}
-use mathlib.Core.Path.{◌≡◌, refl, sym, ◌∙◌}
+use mathlib.Core.Path.{refl, sym, ◌∙◌}
 use Prim.Native.Nat.{◌/◌, ◌<◌, ◌≤◌}
 use native.Mathlib.Omega.{arith}
 use Rattle.grouping.proofs.balance.balance_clusters.Goals as goal
@@ -44,14 +44,13 @@ loop-j-init c = seeking_start _ _
 
 pub loop-j-preserved : goal.loop-j-preserved
 loop-j-preserved c =
-    let h : c.wide.result ≡ get_or c.rounds.sizes c.loop-j.j 0 = c.wide.ensures.0 in
-    seeking_on c.loop-j.invariant (omega arith) (rw (← h) (le-ltb _ _ c.if-wide-share.false))
+    seeking_on c.loop-j.invariant (omega arith) (le-ltb _ _ (omega (arith, c.if-from-share.false)))
 
 pub give_row-requires : goal.give_row-requires
 unfolding allowance of_bits
 give_row-requires c =
     let hg : c.loop-i.i < length c.rounds.sizes = omega arith in
-    let under : get_or c.rounds.sizes c.loop-j.j 0 < length c.args.part.now / length c.args.sizes.now = omega (arith, c.if-wide-share.true, c.wide.ensures.0) in record { parted = record { below = c.rounds.invariant.below; centred = rw c.rounds.invariant.kept' c.requires.parted.centred; whole = c.rounds.invariant.whole; few = rw c.rounds.invariant.kept c.requires.parted.few }; g_in_bounds = ((hg, omega arith, giver_other c.rounds.invariant.shared c.rounds.sizes (omega arith) c.loop-i.i c.loop-j.j hg c.if-allowance-sizes.true under, giver_has c.rounds.invariant.shared c.rounds.sizes (omega arith) c.loop-i.i c.loop-j.j hg c.if-allowance-sizes.true under)) }
+    let under : get_or c.rounds.sizes c.loop-j.j 0 < length c.args.part.now / length c.args.sizes.now = omega (arith, c.if-from-share.true) in record { parted = record { below = c.rounds.invariant.below; centred = rw c.rounds.invariant.kept' c.requires.parted.centred; alike = c.requires.parted.alike; whole = c.rounds.invariant.whole; few = rw c.rounds.invariant.kept c.requires.parted.few }; g_in_bounds = ((hg, omega arith, giver_other c.rounds.invariant.shared c.rounds.sizes (omega arith) c.loop-i.i c.loop-j.j hg c.if-allowance-sizes.true under, giver_has c.rounds.invariant.shared c.rounds.sizes (omega arith) c.loop-i.i c.loop-j.j hg c.if-allowance-sizes.true under)) }
 
 pub rounds-preserved : goal.rounds-preserved
 unfolding allowance of_bits
@@ -59,7 +58,7 @@ rounds-preserved c =
     let hg : c.loop-i.i < length c.rounds.sizes = omega (arith, c.loop-i.invariant.within, c.if-i-sizes.false) in
     let hr : c.loop-j.j < length c.rounds.sizes = omega (arith, c.loop-j.invariant.within, c.if-j-sizes.false) in
     let t : total c.rounds.sizes ≤ length c.args.part.now = omega (arith, c.rounds.invariant.whole, c.rounds.invariant.kept) in
-    let under : get_or c.rounds.sizes c.loop-j.j 0 < length c.args.part.now / length c.args.sizes.now = omega (arith, c.wide.ensures.0, c.if-wide-share.true) in
+    let under : get_or c.rounds.sizes c.loop-j.j 0 < length c.args.part.now / length c.args.sizes.now = omega (arith, c.if-from-share.true) in
     let eg = seeking_found c.loop-i.invariant hg (sym (size_test c.rounds.invariant.shared c.rounds.sizes t c.loop-i.i hg) ∙ c.if-allowance-sizes.true) in
     let er = seeking_found c.loop-j.invariant hr (lt-ltb _ _ under) in
     record {
@@ -68,7 +67,7 @@ rounds-preserved c =
       kept = c.give_row.auto.part ∙ c.rounds.invariant.kept;
       kept' = c.give_row.auto.sizes ∙ c.rounds.invariant.kept';
       whole = moved_total c.rounds.part c.rounds.sizes _ c.rounds.invariant.whole c.give_row.ensures.given;
-      below = c.give_row.ensures.rows;
+      below = c.give_row.ensures.below;
       so_far = λ ps laid.
           reach_on (c.rounds.invariant.so_far ps laid) (omega (arith, c.rounds-test.true)) c.loop-i.i c.loop-j.j eg er hg hr _ _ c.give_row.ensures.given;
     }

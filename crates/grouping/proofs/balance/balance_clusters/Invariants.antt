@@ -1,10 +1,10 @@
 use Rattle.grouping.proofs.Rounds.{Balancing}
 use Rattle.grouping.proofs.Seeks.{Seeking}
-use Rattle.grouping.specs.PartsInside.{table_of}
+use Rattle.sums.specs.Table.{rows_of}
 use Rattle.grouping.specs.Balance.{allowed}
 use lib.ListN.{length}
 use lib.Dec.{ltb}
-use Prim.Native.Nat.{◌-◌, ◌/◌}
+use Prim.Native.Nat.{◌-◌}
 use Rattle.grouping.proofs.balance.balance_clusters.Given as goal
 
 abbrev pub invariant-loop-i : goal.invariant-loop-i
@@ -20,7 +20,7 @@ abbrev pub decreases-loop-j : goal.decreases-loop-j
 decreases-loop-j l = length l.sizes - l.j
 
 abbrev pub invariant-rounds : goal.invariant-rounds
-invariant-rounds l = Balancing (table_of l.dim l.values) (table_of l.dim l.centroids) l.weight (length l.values / l.dim) l.initial.part l.initial.sizes l.part l.sizes l.n
+invariant-rounds l = Balancing (rows_of l.rows) (rows_of l.centroids) l.weight l.rows.count l.initial.part l.initial.sizes l.part l.sizes l.n
 
 abbrev pub decreases-rounds : goal.decreases-rounds
 decreases-rounds l = 10 - l.n

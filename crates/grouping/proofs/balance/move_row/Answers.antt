@@ -1,5 +1,4 @@
 use Rattle.grouping.proofs.Moves.{two_sizes, carried_moved}
-use Rattle.grouping.proofs.Layouts.{start_le}
 use Rattle.grouping.proofs.Rounds.{moved_sized}
 use mathlib.Core.Path.{◌∙◌}
 use lib.Seq.{get_or-set_other}
@@ -7,15 +6,6 @@ use lib.ListN.{get_or}
 use Prim.Native.Nat.{◌-◌, ◌+◌}
 use native.Mathlib.Omega.{arith}
 use Rattle.grouping.proofs.balance.move_row.Goals as goal
-
-pub overflow_add-from : goal.overflow_add-from
-overflow_add-from c = omega (arith, start_le c.args.sizes.now c.args.g c.requires.g_in_bounds.0)
-
-pub overflow_add-end : goal.overflow_add-end
-overflow_add-end c = omega (arith, start_le c.args.sizes.now c.args.r c.requires.g_in_bounds.1)
-
-pub carry-requires : goal.carry-requires
-carry-requires c = omega (arith, start_le c.args.sizes.now c.args.g c.requires.g_in_bounds.0, start_le c.args.sizes.now c.args.r c.requires.g_in_bounds.1)
 
 pub overflow_add-sizes : goal.overflow_add-sizes
 overflow_add-sizes c =
@@ -29,7 +19,7 @@ returns c =
       c.carry.ensures
           ∙ carried_moved a.part.now a.sizes.now ps laid.0 laid.1 a.g a.r a.j
           (c.start_of.result + a.j)
-          (c.start_of-2.result + c.wide.result)
+          (c.start_of-2.result + c.from.result)
           c.requires.g_in_bounds.0 c.requires.g_in_bounds.1 c.requires.g_in_bounds.2 c.requires.g_in_bounds.3 (omega arith) (omega arith),
       moved_sized a.part.now a.sizes.now a.g a.r c.requires.g_in_bounds.0 c.requires.g_in_bounds.1 c.requires.g_in_bounds.2 ps laid a.j c.requires.g_in_bounds.3 _
           (rw (get_or-set_other a.sizes.now a.g a.r (get_or a.sizes.now a.g 0 - 1) 0 c.requires.g_in_bounds.2)),

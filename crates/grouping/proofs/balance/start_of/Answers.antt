@@ -1,19 +1,22 @@
-use Rattle.grouping.proofs.Layouts.{total_drop, total_at, total-none}
+use Rattle.std.proofs.Common.{◌≡◌, ℕ, ◌+◌, ◌-◌, List, length, take, drop, ap, ◌∙◌, arith, add-one, take_all, length-drop, drop_of_length-le}
 use Rattle.grouping.specs.PartsInside.{total}
-use mathlib.Core.Path.{◌≡◌, ap, ◌∙◌}
-use native.Mathlib.Numerals.{add-one}
-use lib.ListN.{drop, drop_of_length-le}
-use Prim.Native.Nat.{◌+◌}
-use native.Mathlib.Omega.{arith}
+use Rattle.grouping.proofs.Layouts.{total_drop, total_at, total-none}
 use Rattle.grouping.proofs.balance.start_of.Goals as goal
 
-pub loop-i-init : goal.loop-i-init
-loop-i-init c = omega (arith, total_drop (c.args.c + 1) c.args.sizes.now)
+-- the sizes that are lent
+lent : (sizes : List ℕ) (c : ℕ) → take (length sizes - (c + 1)) (drop (c + 1) sizes) ≡ drop (c + 1) sizes
+lent sizes c = take_all (length sizes - (c + 1)) (drop (c + 1) sizes) (omega (arith, length-drop (c + 1) sizes))
 
-pub loop-i-preserved : goal.loop-i-preserved
-loop-i-preserved c = rw (add-one c.loop-i.i) (omega (arith, total_at c.loop-i.i c.args.sizes.now (omega arith), c.wide-sum.ensures))
+pub loop-size-init : goal.loop-size-init
+loop-size-init c = (omega (arith, ap total (lent c.args.sizes.now c.args.c)), omega (arith, total_drop (c.args.c + 1) c.args.sizes.now))
+
+pub loop-size-preserved : goal.loop-size-preserved
+loop-size-preserved c =
+    let s = take (length c.args.sizes.now - (c.args.c + 1)) (drop (c.args.c + 1) c.args.sizes.now) in
+    rw (add-one c.loop-size.size-index) (omega (arith, total_at c.loop-size.size-index s c.loop-size-test.true), c.loop-size.invariant.1)
 
 pub returns : goal.returns
 returns c =
-    let z : total (drop c.loop-i.i c.args.sizes.now) ≡ 0 = ap total (drop_of_length-le c.args.sizes.now {i = c.loop-i.i} (omega arith)) ∙ total-none in
-    omega arith
+    let s = take (length c.args.sizes.now - (c.args.c + 1)) (drop (c.args.c + 1) c.args.sizes.now) in
+    let z : total (drop c.loop-size.size-index s) ≡ 0 = ap total (drop_of_length-le s {i = c.loop-size.size-index} (omega arith)) ∙ total-none in
+    omega (arith, z)

@@ -13,12 +13,6 @@ rows_with_label-n-requires c =
     let r = gathering_room c.requires.0 c.requires.1.1.1 c.loop-c.invariant (c.loop-c.c - 1) (omega arith) in
     (c.requires.0, simp (length-take, length-drop) (omega arith))
 
-pub overflow_cast-sizes : goal.overflow_cast-sizes
-overflow_cast-sizes c = omega (arith, gathering_room c.requires.0 c.requires.1.1.1 c.loop-c.invariant (c.loop-c.c - 1) (omega arith), c.rows_with_label-n.ensures.0)
-
-pub overflow_add-at : goal.overflow_add-at
-overflow_add-at c = omega (arith, gathering_room c.requires.0 c.requires.1.1.1 c.loop-c.invariant (c.loop-c.c - 1) (omega arith), c.rows_with_label-n.ensures.0)
-
 pub loop-c-preserved : goal.loop-c-preserved
 loop-c-preserved c =
     gathering_step c.requires.0 c.requires.1.1.1 c.loop-c.invariant (c.loop-c.c - 1) (omega arith) (length c.loop-c.part - c.loop-c.at) _ c.rows_with_label-n.new.dst _ c.rows_with_label-n.ensures.0 c.rows_with_label-n.ensures.1

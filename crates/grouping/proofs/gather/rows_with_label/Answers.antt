@@ -1,21 +1,16 @@
 use Rattle.grouping.proofs.Gathers.{picking_end, picking_skip, picking_room, picking_take}
-use mathlib.Core.Path.{refl}
-use borrow.Author.Rules.{rules}
 use native.Mathlib.Omega.{arith}
 use Rattle.grouping.proofs.gather.rows_with_label.Goals as goal
-use Rattle.grouping.proofs.gather.rows_with_label.Goals.{then-wide-c, else-wide-c}
-
-pub loop-i-init : goal.loop-i-init
-loop-i-init c = record { within = search rules; fits = search rules; kept = refl; done = refl; rest = refl }
+use Rattle.grouping.proofs.gather.rows_with_label.Goals.{then-from-c, else-from-c}
 
 pub bounds-dst-n : goal.bounds-dst-n
 bounds-dst-n c = picking_room c.requires.0 c.loop-i.invariant c.requires.1 (omega arith) (omega arith)
 
 pub loop-i-preserved : goal.loop-i-preserved
 loop-i-preserved c =
-    elim c.if-wide-c.branch [
-      | then-wide-c w ↦ rw (w.dst-is, w.n-is) (picking_take c.requires.0 c.loop-i.invariant c.requires.1 (omega arith) (omega arith))
-      | else-wide-c w ↦ rw (w.dst-is, w.n-is) (picking_skip c.requires.0 c.loop-i.invariant (omega arith) (omega arith))
+    elim c.if-from-c.branch [
+      | then-from-c w ↦ rw (w.dst-is, w.n-is) (picking_take c.requires.0 c.loop-i.invariant c.requires.1 (omega arith) (omega arith))
+      | else-from-c w ↦ rw (w.dst-is, w.n-is) (picking_skip c.requires.0 c.loop-i.invariant (omega arith) (omega arith))
     ]
 
 pub returns : goal.returns

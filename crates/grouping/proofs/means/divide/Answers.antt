@@ -1,17 +1,9 @@
-use Rattle.grouping.proofs.Averages.{divide_more, divide_end}
-use lib.ListN.{length-set}
-use mathlib.Core.Path.{◌∙◌}
-use native.Mathlib.Omega.{arith}
+use Rattle.std.proofs.Common.{arith}
+use Rattle.std.proofs.lemmas.List.{get_or_default}
+use Rattle.std.proofs.lemmas.List.Edits.{map_over_more}
+use lib.Ieee.{binary32, div}
+use Rattle.sums.specs.Sums.{count32}
 use Rattle.grouping.proofs.means.divide.Goals as goal
 
-pub loop-i-preserved : goal.loop-i-preserved
-loop-i-preserved c = (
-  omega arith,
-  (
-    length-set c.loop-i.sums c.loop-i.i _ ∙ c.loop-i.invariant.1.0,
-    divide_more c.args.count c.args.sums.now c.loop-i.sums c.loop-i.i (omega arith) c.loop-i.invariant.1.1,
-  ),
-)
-
-pub returns : goal.returns
-returns c = divide_end c.args.count c.args.sums.now c.loop-i.sums c.loop-i.i (omega arith) c.loop-i.invariant.1.1
+pub loop-s-preserved : goal.loop-s-preserved
+loop-s-preserved c = map_over_more (λ s. div binary32 s (count32 c.args.count)) c.args.sums.now c.loop-s.s-items c.loop-s.s-index _ (omega arith) c.loop-s.invariant (get_or_default c.loop-s.s-items c.loop-s.s-index _ _ (omega arith))

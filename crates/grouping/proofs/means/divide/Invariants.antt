@@ -1,13 +1,6 @@
-use Rattle.grouping.proofs.Averages.{quotient}
-use Rattle.sums.specs.Tables.{tabulate}
-use lib.ListN.{length, drop}
-use mathlib.Core.List.{◌++◌}
-use mathlib.Core.Path.{◌≡◌}
-use Prim.Native.Nat.{◌≤◌, ◌-◌}
+use Rattle.std.proofs.Common.{◌≡◌, ◌++◌, take, drop}
+use Rattle.grouping.proofs.Averages.{divided_by}
 use Rattle.grouping.proofs.means.divide.Given as goal
 
-abbrev pub invariant-loop-i : goal.invariant-loop-i
-invariant-loop-i l = (l.i ≤ length l.initial.sums) × ((length l.sums ≡ length l.initial.sums) × (l.sums ≡ tabulate (quotient l.count l.initial.sums) l.i ++ drop l.i l.initial.sums))
-
-abbrev pub decreases-loop-i : goal.decreases-loop-i
-decreases-loop-i l = length l.initial.sums - l.i
+abbrev pub invariant-loop-s : goal.invariant-loop-s
+invariant-loop-s l = l.s-items ≡ divided_by l.count (take l.s-index l.initial.s-items) ++ drop l.s-index l.initial.s-items

@@ -3,42 +3,35 @@ use mathlib.Core.Path.{◌≡◌, sym, ◌∙◌}
 use mathlib.Core.List.{[]}
 use lib.ListN.{get_or}
 use native.Mathlib.Nat.{mod-lt}
-use Rattle.sums.proofs.Rows.{room, row_at_lem, rows_length}
-use Rattle.sums.specs.Rows.{rows_from}
+use Rattle.sums.specs.Table.{rows_of}
+use Rattle.sums.proofs.Rows.{row_at_lem, rows_length}
+use Rattle.labels.proofs.Columns.{row_long}
 use Rattle.kmeans.proofs.Updates.{turned_scaled, turned_pool, turned_drawn}
 use native.Mathlib.Omega.{arith}
 use Rattle.kmeans.proofs.update.update_cluster.Goals as goal
 
-pub returns-then-count-gt0 : goal.returns-then-count-gt0
-returns-then-count-gt0 c =
-    let w = turned_scaled _ _ _ _ _ _ c.args.count (omega (arith, c.if-count-gt0.true)) c.requires.at_in_bounds c.scale.ensures in
-    record { fact = w.0; used_value = w.1 }
+pub returns-then-count-gt0-clause-fact : goal.returns-then-count-gt0-clause-fact
+returns-then-count-gt0-clause-fact c = (turned_scaled c.args.draws.now c.args.draws.now _ c.args.pool.now _ c.args.used _ c.args.count (omega (arith, c.if-count-gt0.true)) c.scale.ensures).0
 
-pub copy_row-requires : goal.copy_row-requires
-copy_row-requires c =
-    let a = c.args in
-    let p = c.requires.sources.1.1 a.state.used c.if-used-pool.true in
-    (c.requires.dst_len.0, rw (c.training_place-place.ensures.0, c.requires.sources.0) (room (get_or a.pool.now a.state.used 0) a.rows a.dim p))
+pub copy_from_slice-requires : goal.copy_from_slice-requires
+copy_from_slice-requires c =
+    let r = c.args.training in
+    let p = c.requires.sources.1 c.args.used c.if-used-pool.true in
+    c.requires.dst_len.0 ∙ sym (rw (c.row.ensures, c.training_place-place.ensures.0) (row_long r (get_or c.args.pool.now c.args.used 0) p))
 
-pub returns-then-used-pool : goal.returns-then-used-pool
-returns-then-used-pool c =
+pub returns-then-used-pool-clause-fact : goal.returns-then-used-pool-clause-fact
+returns-then-used-pool-clause-fact c =
     let a = c.args in
-    let p = c.requires.sources.1.1 a.state.used c.if-used-pool.true in
+    let r = a.training in
     let e : a.count ≡ 0 = omega (arith, c.if-count-gt0.false) in
-    let w = turned_pool a.draws.now (rows_from a.dim a.rows a.training.now) a.pool.now a.from.now a.state c.copy_row.new.dst c.if-used-pool.true c.requires.at_in_bounds
-    (c.copy_row.ensures ∙ rw c.training_place-place.ensures.0 (sym (row_at_lem a.dim a.rows a.training.now (get_or a.pool.now a.state.used 0) [] p))) in
-    rw e (record { fact = w.0; used_value = w.1 })
+    let row = c.row.ensures ∙ rw c.training_place-place.ensures.0 (sym (row_at_lem r.dim r.count r.values.now (get_or a.pool.now a.used 0) [] (c.requires.sources.1 a.used c.if-used-pool.true))) in
+    rw e (turned_pool a.draws.now a.draws.now (rows_of r) a.pool.now a.from.now a.used _ c.if-used-pool.true (c.copy_from_slice.ensures.after ∙ row)).0
 
-pub copy_row-requires-2 : goal.copy_row-requires-2
-copy_row-requires-2 c =
+pub returns-clause-fact : goal.returns-clause-fact
+returns-clause-fact c =
     let a = c.args in
-    (c.requires.dst_len.0, rw (c.training_place-place-2.ensures.0, c.requires.sources.0) (room (c.index.result % a.rows) a.rows a.dim (mod-lt c.index.result {m = a.rows} c.requires.sources.1.0.0)))
-
-pub returns : goal.returns
-returns c =
-    let a = c.args in
+    let r = a.training in
     let e : a.count ≡ 0 = omega (arith, c.if-count-gt0.false) in
-    let p = mod-lt c.index.result {m = a.rows} c.requires.sources.1.0.0 in
-    let w = turned_drawn a.draws.now (rows_from a.dim a.rows a.training.now) a.pool.now a.from.now a.state c.copy_row-2.new.dst c.if-used-pool.false c.draw-drawn.result c.draw-drawn.ensures
-    (c.copy_row-2.ensures ∙ rw (c.training_place-place-2.ensures.0, rows_length, ← c.index.ensures.0) (sym (row_at_lem a.dim a.rows a.training.now (c.index.result % a.rows) [] p))) in
-    rw e (record { fact = w.0; used_value = w.1 })
+    let p = mod-lt c.draw-number.result {m = r.count} c.requires.sources.0.0 in
+    let row = c.row-2.ensures ∙ rw (c.training_place-place-2.ensures.0, rows_length) (sym (row_at_lem r.dim r.count r.values.now (c.draw-number.result % r.count) [] p)) in
+    rw e (turned_drawn a.draws.now _ (rows_of r) a.pool.now a.from.now a.used _ c.if-used-pool.false c.draw-number.result c.draw-number.ensures (c.copy_from_slice-2.ensures.after ∙ row)).0

@@ -1,11 +1,6 @@
-use Prim.Native.Nat.{◌≤◌, ◌-◌}
 use mathlib.Core.Path.{◌≡◌}
-use lib.ListN.{length}
 use Rattle.labels.proofs.Columns.{parts_of}
 use Rattle.labels.proofs.lanes.dots16_pair.Given as goal
 
 abbrev pub invariant-loop-i : goal.invariant-loop-i
-invariant-loop-i l = (l.i ≤ length l.first) × ((l.a ≡ parts_of l.first l.panel l.i) × (l.b ≡ parts_of l.second l.panel l.i))
-
-abbrev pub decreases-loop-i : goal.decreases-loop-i
-decreases-loop-i l = length l.first - l.i
+invariant-loop-i l = (l.a ≡ parts_of l.first l.panel l.i) × (l.b ≡ parts_of l.second l.panel l.i)

@@ -3,7 +3,6 @@ use Rattle.sums.proofs.Tables.{over_read, over_more, over_done}
 use lib.Ieee.{nan}
 use lib.ListN.{length}
 use mathlib.Core.Path.{◌≡◌, ◌∙◌}
-use borrow.Author.Rules.{rules}
 use native.Mathlib.Omega.{arith}
 use Rattle.labels.proofs.lanes.lane16.Goals as goal
 
@@ -12,11 +11,11 @@ loop-j-preserved c =
     let a = c.args in
     let f = lane_at a.acc.now a.x a.panel.now a.at in
     let n : length a.acc.now ≡ 16 = c.requires.0 in
-    (search rules, rw c.loop-j.invariant.1 (over_more f a.acc.now c.loop-j.j _ (omega arith) (rw (over_read f a.acc.now c.loop-j.j nan (omega arith)))))
+    rw c.loop-j.invariant (over_more f a.acc.now c.loop-j.j _ (omega arith) (rw (over_read f a.acc.now c.loop-j.j nan (omega arith))))
 
 pub returns : goal.returns
 returns c =
     let a = c.args in
     let n : length a.acc.now ≡ 16 = c.requires.0 in
     let e : c.loop-j.j ≡ 16 = omega arith in
-    (rw e at c.loop-j.invariant.1) ∙ over_done (lane_at a.acc.now a.x a.panel.now a.at) a.acc.now 16 (omega arith)
+    (rw e at c.loop-j.invariant) ∙ over_done (lane_at a.acc.now a.x a.panel.now a.at) a.acc.now 16 (omega arith)

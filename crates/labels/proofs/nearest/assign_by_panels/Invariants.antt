@@ -1,11 +1,8 @@
-use Prim.Native.Nat.{◌-◌}
-use lib.ListN.{length}
+use Rattle.std.proofs.Common.{◌*◌}
 use Rattle.labels.specs.Inside.{placed_by}
 use Rattle.labels.proofs.Assigns.{Assigning}
 use Rattle.labels.proofs.nearest.assign_by_panels.Given as goal
 
-abbrev pub invariant-loop-i : goal.invariant-loop-i
-invariant-loop-i l = Assigning (placed_by l.values l.rownorms l.dim l.panels l.norms) l.initial.labels l.labels l.distances l.tally l.i
-
-abbrev pub decreases-loop-i : goal.decreases-loop-i
-decreases-loop-i l = length l.initial.labels - l.i
+-- two rows a pair
+abbrev pub invariant-loop-pair : goal.invariant-loop-pair
+invariant-loop-pair l = Assigning (placed_by l.rows l.rownorms l.panels l.norms) l.initial.labels l.labels l.distances l.tally (2 * l.pair)

@@ -9,5 +9,5 @@ use Rattle.replay.proofs.cases.closure_agrees.Goals as goal
 pub returns : goal.returns
 unfolding closure_agrees
 returns c =
-    bytes_agreed _ c.args.head.now c.args.stored.now (closure_written (u32_at c.args.head.now 28)) (length c.args.stored.now) c.families_closure-number.result _ _ c.bytes_agree.ensures refl
-    (rw (c.float_of-epsilon.ensures, c.u32_at-2.ensures, c.u32_at.ensures, c.u32_at-count.ensures, c.u32_at-dim.ensures, c.requires.1) at c.families_closure-number.ensures)
+    bytes_agreed _ c.args.head.bytes.now c.args.stored.now (closure_written (u32_at c.args.head.bytes.now 28)) (length c.args.stored.now) c.families_closure-number.result _ _ c.bytes_agree.ensures refl
+    (rw (c.float_of-epsilon.ensures, c.word-2.ensures, c.word.ensures, c.word-count.ensures, c.word-dim.ensures, c.requires) at c.families_closure-number.ensures)

@@ -19,34 +19,19 @@ pub returns-then-not-all_whole : goal.returns-then-not-all_whole
 unfolding kmeans_agrees
 returns-then-not-all_whole c = rw (← c.all_whole.ensures, c.if-not-all_whole.true)
 
-pub slice_bounds-kmeans_inside-end : goal.slice_bounds-kmeans_inside-end
-slice_bounds-kmeans_inside-end c = sym (room {A = ℕ} 0 (length c.args.draws.now) c.requires.head_len.1.0)
-
-pub slice_bounds-kmeans_inside-end-2 : goal.slice_bounds-kmeans_inside-end-2
-slice_bounds-kmeans_inside-end-2 c = sym (room (of_bits binary32 0) (length c.args.values.now) c.requires.head_len.1.1)
-
-pub slice_bounds-kmeans_inside-end-3 : goal.slice_bounds-kmeans_inside-end-3
-slice_bounds-kmeans_inside-end-3 c = sym (room {A = ℕ} 0 (length c.args.labels.now) c.requires.labels_len_bound.0)
-
-pub slice_bounds-kmeans_inside-end-4 : goal.slice_bounds-kmeans_inside-end-4
-slice_bounds-kmeans_inside-end-4 c = sym (room (of_bits binary32 0) (length c.args.centroids.now) c.requires.labels_len_bound.1)
-
-pub slice_bounds-kmeans_inside-end-5 : goal.slice_bounds-kmeans_inside-end-5
-slice_bounds-kmeans_inside-end-5 c = sym (room (of_bits binary32 0) (length c.args.values.now) c.requires.head_len.1.1)
-
 pub kmeans_inside-requires : goal.kmeans_inside-requires
 kmeans_inside-requires c =
     let w = whole (goal.at.kmeans_inside-requires c).Else-not-all_whole in
-    let rd = room {A = ℕ} 0 (length c.args.draws.now) c.requires.head_len.1.0 in
-    let rv = room (of_bits binary32 0) (length c.args.values.now) c.requires.head_len.1.1 in
+    let rd = room {A = ℕ} 0 (length c.args.draws.now) c.requires.draws_len_bound.0 in
+    let rv = room (of_bits binary32 0) (length c.args.values.now) c.requires.draws_len_bound.1 in
     let rl = room {A = ℕ} 0 (length c.args.labels.now) c.requires.labels_len_bound.0 in
-    let rc = room (of_bits binary32 0) (length c.args.centroids.now) c.requires.labels_len_bound.1 in record { head_len = ((c.requires.head_len.0, (w.draws_are ∙ ap (λ (n : ℕ). n * 4) (sym rd), w.values_are ∙ ap (λ (n : ℕ). n * 4) (sym rv)))); labels_len = ((w.labels_are ∙ ap (λ (n : ℕ). n * 4) (sym rl), (w.centroids_are ∙ ap (λ (n : ℕ). n * 4) (sym rc), refl))) }
+    let rc = room (of_bits binary32 0) (length c.args.centroids.now) c.requires.labels_len_bound.1 in record { draws_len = ((w.draws_are ∙ ap (λ (n : ℕ). n * 4) (sym rd), w.values_are ∙ ap (λ (n : ℕ). n * 4) (sym rv))); labels_len = ((w.labels_are ∙ ap (λ (n : ℕ). n * 4) (sym rl), (w.centroids_are ∙ ap (λ (n : ℕ). n * 4) (sym rc), refl))) }
 
 pub returns : goal.returns
 unfolding kmeans_agrees
 returns c =
-    let rd = room {A = ℕ} 0 (length c.args.draws.now) c.requires.head_len.1.0 in
-    let rv = room (of_bits binary32 0) (length c.args.values.now) c.requires.head_len.1.1 in
+    let rd = room {A = ℕ} 0 (length c.args.draws.now) c.requires.draws_len_bound.0 in
+    let rv = room (of_bits binary32 0) (length c.args.values.now) c.requires.draws_len_bound.1 in
     let rl = room {A = ℕ} 0 (length c.args.labels.now) c.requires.labels_len_bound.0 in
     let rc = room (of_bits binary32 0) (length c.args.centroids.now) c.requires.labels_len_bound.1 in
     rw (tested (goal.at.returns c).Else-not-all_whole) (rw (rd, rv, rl, rc) at c.kmeans_inside.ensures)

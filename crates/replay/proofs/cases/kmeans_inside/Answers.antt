@@ -6,13 +6,13 @@ use Prim.Native.Nat.{ℕ, ◌*◌}
 use Rattle.replay.proofs.cases.kmeans_inside.Goals as goal
 
 pub kmeans_told-requires : goal.kmeans_told-requires
-kmeans_told-requires c = (c.requires.head_len.0, (c.requires.labels_len.0 ∙ ap (λ (n : ℕ). n * 4) (sym c.families_kmeans-number.auto.labels), c.requires.labels_len.1.0 ∙ ap (λ (n : ℕ). n * 4) (sym c.families_kmeans-number.auto.centroids)))
+kmeans_told-requires c = (c.requires.labels_len.0 ∙ ap (λ (n : ℕ). n * 4) (sym c.families_kmeans-number.auto.labels), c.requires.labels_len.1.0 ∙ ap (λ (n : ℕ). n * 4) (sym c.families_kmeans-number.auto.centroids))
 
 pub shape_of-d : goal.shape_of-d
-shape_of-d c = c.words_of.auto.out
+shape_of-d c = c.read_all.auto.out
 
 pub shape_of-v : goal.shape_of-v
-shape_of-v c = c.floats_of.auto.out
+shape_of-v c = c.read_all-2.auto.out
 
 pub shape_of-l : goal.shape_of-l
 shape_of-l c = c.families_kmeans-number.auto.labels
@@ -26,5 +26,5 @@ shape_of-training c = c.families_kmeans-number.auto.training
 pub returns : goal.returns
 unfolding kmeans_agrees_of
 returns c =
-    kmeans_agreed _ c.args.head.now c.args.labels.now c.args.centroids.now (length c.args.l.now) (length c.args.c.now) c.families_kmeans-number.result _ _ _ _ _ _ c.kmeans_told.ensures c.families_kmeans-number.auto.labels c.families_kmeans-number.auto.centroids
-    (kmeans_read c.args.head.now c.args.draws.now c.args.values.now (length c.args.d.now) (length c.args.v.now) (length c.args.l.now) (length c.args.c.now) _ _ _ _ _ _ _ _ _ _ _ _ _ _ _ _ c.u32_at.ensures c.u32_at-2.ensures c.u32_at-3.ensures c.u32_at-4.ensures c.u32_at-5.ensures c.u32_at-6.ensures c.u32_at-7.ensures c.words_of.ensures c.floats_of.ensures c.requires.labels_len.1.1 c.families_kmeans-number.ensures.fact)
+    kmeans_agreed _ c.args.head.bytes.now c.args.labels.now c.args.centroids.now (length c.args.l.now) (length c.args.c.now) c.families_kmeans-number.result _ _ _ _ _ _ c.kmeans_told.ensures c.families_kmeans-number.auto.labels c.families_kmeans-number.auto.centroids
+    (kmeans_read c.args.head.bytes.now c.args.draws.now c.args.values.now (length c.args.d.now) (length c.args.v.now) (length c.args.l.now) (length c.args.c.now) _ _ _ _ _ _ _ _ _ _ _ _ _ _ _ _ c.word.ensures c.word-2.ensures c.word-3.ensures c.word-4.ensures c.word-5.ensures c.word-6.ensures c.word-7.ensures c.read_all.ensures c.read_all-2.ensures c.requires.labels_len.1.1 c.families_kmeans-number.ensures.fact)

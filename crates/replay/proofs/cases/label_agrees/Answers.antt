@@ -8,5 +8,5 @@ use Rattle.replay.proofs.cases.label_agrees.Goals as goal
 pub returns : goal.returns
 unfolding label_agrees
 returns c =
-    bytes_agreed _ c.args.head.now c.args.stored.now bytes16 (length c.args.stored.now) c.families_label-number.result _ _ c.bytes_agree.ensures refl
-    (rw (c.u32_at-dim.ensures, c.u32_at-k.ensures, c.requires.1) at c.families_label-number.ensures)
+    bytes_agreed _ c.args.head.bytes.now c.args.stored.now bytes16 (length c.args.stored.now) c.families_label-number.result _ _ c.bytes_agree.ensures refl
+    (rw (c.word-dim.ensures, c.word-k.ensures, c.requires) at c.families_label-number.ensures)

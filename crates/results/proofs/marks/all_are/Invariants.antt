@@ -1,11 +1,8 @@
-use Rattle.results.specs.Grouping.{all_are}
-use lib.ListN.{length, drop}
-use mathlib.Core.Path.{◌≡◌}
-use Prim.Native.Nat.{◌≤◌, ◌-◌}
+use Rattle.std.proofs.Common.{◌≡◌, drop}
+use Rattle.results.specs.Grouping.{all_pass}
 use Rattle.results.proofs.marks.all_are.Given as goal
 
-abbrev pub invariant-loop-i : goal.invariant-loop-i
-invariant-loop-i l = (l.i ≤ length l.cells) × (all_are l.v (drop l.i l.cells) ≡ all_are l.v l.cells)
-
-abbrev pub decreases-loop-i : goal.decreases-loop-i
-decreases-loop-i l = length l.cells - l.i
+abbrev pub invariant-loop-cell : goal.invariant-loop-cell
+invariant-loop-cell g l =
+    let test = λ (x : _). g.T.PartialEq.eq x l.v in
+    all_pass test (drop l.cell-index l.cells) ≡ all_pass test l.cells

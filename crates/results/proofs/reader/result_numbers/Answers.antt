@@ -9,4 +9,4 @@ pub returns-then-not-is_result : goal.returns-then-not-is_result
 returns-then-not-is_result c = numbers_refused c.args.file.now (sym (c.if-not-is_result.true) ∙ c.is_result.ensures)
 
 pub returns : goal.returns
-returns c = numbers_read c.args.file.now c.u32_at-rows.result c.u32_at-dim.result c.u32_at-groups.result c.u32_at-rows.ensures c.u32_at-dim.ensures c.u32_at-groups.ensures (sym c.is_result.ensures ∙ c.if-not-is_result.false)
+returns c = numbers_read c.args.file.now c.read_at-rows.result c.read_at-dim.result c.read_at-groups.result c.read_at-rows.ensures c.read_at-dim.ensures c.read_at-groups.ensures (sym c.is_result.ensures ∙ c.if-not-is_result.false)

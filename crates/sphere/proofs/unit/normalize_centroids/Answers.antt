@@ -2,34 +2,19 @@ use Rattle.sphere.specs.Unit.{unit_row}
 use Rattle.sums.proofs.Rows.{room, rows_length, part_length, part_row, part_put}
 use Rattle.sums.proofs.Tables.{map_index, over_read, over_more, over_done}
 use Rattle.sums.specs.Rows.{Row, rows_from}
-use borrow.Rule.Slice.PartMut.{same_len_mid}
-use lib.Ieee.{Float}
 use lib.ListN.{length, get_or}
 use native.Mathlib.Nat.{le_of_eq}
 use mathlib.Core.List.{[]}
-use mathlib.Core.Path.{◌≡◌, refl, sym, ap, ◌∙◌}
-use Prim.Native.Nat.{ℕ, ◌≤◌, ◌<◌, ◌+◌, ◌-◌, ◌*◌}
-use borrow.Author.Rules.{rules}
+use mathlib.Core.Path.{◌≡◌, sym, ap, ◌∙◌}
+use Prim.Native.Nat.{ℕ, ◌≤◌, ◌<◌, ◌+◌, ◌*◌}
 use native.Mathlib.Omega.{arith}
 use Rattle.sphere.proofs.unit.normalize_centroids.Goals as goal
 use Rattle.sphere.proofs.unit.normalize_centroids.Goals.{In-loop-c}
 
-pub loop-c-init : goal.loop-c-init
-loop-c-init c = (search rules, (refl, refl))
-
 -- row c lies inside
 inside : (c : In-loop-c) → let a = c.args in c.loop-c.c * a.dim + a.dim ≤ length c.loop-c.centroids
 inside c =
-    rw (c.loop-c.invariant.1.0, c.requires) (room c.loop-c.c c.args.k c.args.dim c.loop-c-test.true)
-
-pub overflow_mul-at : goal.overflow_mul-at
-overflow_mul-at c = omega (arith, inside (goal.at.overflow_mul-at c).In-loop-c, c.loop-c.invariant.1.0, c.well_formed)
-
-pub overflow_add-end : goal.overflow_add-end
-overflow_add-end c = omega (arith, inside (goal.at.overflow_add-end c).In-loop-c, c.loop-c.invariant.1.0, c.well_formed)
-
-pub offset_bounds-centroids-at : goal.offset_bounds-centroids-at
-offset_bounds-centroids-at c = omega (arith, inside (goal.at.offset_bounds-centroids-at c).In-loop-c, c.loop-c.invariant.1.0, c.well_formed)
+    rw (c.loop-c.auto.centroids, c.requires) (room c.loop-c.c c.args.k c.args.dim c.loop-c-test.true)
 
 pub loop-c-preserved : goal.loop-c-preserved
 loop-c-preserved c =
@@ -39,15 +24,10 @@ loop-c-preserved c =
     let rows₀ = rows_from a.dim a.k a.centroids.now in
     let f : ℕ → Row = λ i. unit_row (get_or rows₀ i []) in
     let size : length c.normalize.new.row ≡ a.dim = c.normalize.auto.row ∙ part_length (x * a.dim) a.dim c.loop-c.centroids (inside (goal.at.loop-c-preserved c).In-loop-c) in
-    let fit : a.k * a.dim ≤ length c.loop-c.centroids = le_of_eq (sym c.requires ∙ sym c.loop-c.invariant.1.0) in
+    let fit : a.k * a.dim ≤ length c.loop-c.centroids = le_of_eq (sym c.requires ∙ sym c.loop-c.auto.centroids) in
     let more : x < length rows₀ = rw rows_length l in
-    let v : c.normalize.new.row ≡ f x = c.normalize.ensures ∙ ap unit_row (part_row a.dim a.k c.loop-c.centroids x l ∙ rw c.loop-c.invariant.1.1 (over_read f rows₀ x [] more)) in (
-      search rules,
-      (
-        same_len_mid {X = Float} (x * a.dim) (x * a.dim + a.dim - x * a.dim) c.loop-c.centroids c.normalize.new.row c.normalize.auto.row ∙ c.loop-c.invariant.1.0,
-        part_put a.dim a.k c.loop-c.centroids x c.normalize.new.row l fit size ∙ rw c.loop-c.invariant.1.1 (over_more f rows₀ x c.normalize.new.row more v),
-      ),
-    )
+    let v : c.normalize.new.row ≡ f x = c.normalize.ensures ∙ ap unit_row (part_row a.dim a.k c.loop-c.centroids x l ∙ rw c.loop-c.invariant (over_read f rows₀ x [] more)) in
+    part_put a.dim a.k c.loop-c.centroids x c.normalize.new.row l fit size ∙ rw c.loop-c.invariant (over_more f rows₀ x c.normalize.new.row more v)
 
 pub returns : goal.returns
 returns c =
@@ -55,4 +35,4 @@ returns c =
     let rows₀ = rows_from a.dim a.k a.centroids.now in
     let f : ℕ → Row = λ i. unit_row (get_or rows₀ i []) in
     let e : c.loop-c.c ≡ length rows₀ = rw rows_length (omega arith) in
-    c.loop-c.invariant.1.1 ∙ over_done f rows₀ c.loop-c.c (le_of_eq (sym e)) ∙ rw e (sym (map_index unit_row rows₀ []))
+    c.loop-c.invariant ∙ over_done f rows₀ c.loop-c.c (le_of_eq (sym e)) ∙ rw e (sym (map_index unit_row rows₀ []))

@@ -1,10 +1,10 @@
 use Rattle.sums.specs.Sums.{sum_from, square, apart_of}
-use lib.Ieee.{binary32}
-use Rattle.std.proofs.Common.{◌≡◌, ◌-◌, ◌≤◌, length, drop}
+use Rattle.std.specs.Float.{binary32}
+use Rattle.std.proofs.Common.{◌≡◌, length}
 use Rattle.sums.proofs.math.l2_distance_sqr.Given as goal
 
-abbrev pub invariant-loop-i : goal.invariant-loop-i
-invariant-loop-i l = (l.i ≤ length l.a) × (sum_from binary32 square l.sum (drop l.i l.a) (drop l.i l.b) ≡ apart_of l.a l.b)
-
-abbrev pub decreases-loop-i : goal.decreases-loop-i
-decreases-loop-i l = length l.a - l.i
+abbrev pub invariant-loop-x : goal.invariant-loop-x
+invariant-loop-x l =
+    let xs = l.x-iterator.a.rest.now in
+    let ys = l.x-iterator.b.rest.now in
+    (length xs ≡ length ys) × (sum_from binary32 square l.sum xs ys ≡ apart_of l.a l.b)

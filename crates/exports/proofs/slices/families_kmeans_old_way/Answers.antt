@@ -1,4 +1,0 @@
-use Rattle.exports.proofs.slices.families_kmeans_old_way.Goals as goal
-
-pub returns : goal.returns
-returns c = rw (← c.config_of-config.ensures) (record { fact = c.kmeans_in.ensures.fact; cleared = c.kmeans_in.ensures.cleared })

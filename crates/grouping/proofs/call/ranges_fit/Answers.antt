@@ -1,7 +1,0 @@
-use mathlib.Core.Path.{◌∙◌}
-use Rattle.grouping.specs.Call.{ranges_fit}
-use Rattle.grouping.proofs.call.ranges_fit.Goals as goal
-
-pub returns : goal.returns
-unfolding ranges_fit
-returns c = c.both.ensures ∙ rw (c.within-5.ensures, c.both-c.ensures, c.within-4.ensures, c.both-b.ensures, c.within-3.ensures, c.both-a.ensures, c.within-2.ensures, c.within.ensures)
