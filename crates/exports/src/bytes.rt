@@ -17,6 +17,13 @@ use words::ToBytes;
 // What a result byte holds where there is no result.
 const BLANK: u8 = 255;
 
+// No result, as every call starts.
+fn blank(res: &mut [u8])
+    ensures { res.new ≡ replicate (length res.old) 255 }
+{
+    res.fill(BLANK);
+}
+
 // Refusals 1 and 2 of closure, lengths being counts of bytes.
 #[tactic(auto, unfolding(crate::specs::Exports::closure_refusal, sums::specs::Refusals::lowest_from))]
 fn check_closure(
@@ -128,7 +135,7 @@ pub fn families_closure(
         let answer = closure_bytes_call epsilon max_replicas dim count vector.now centroids.now n in
         Gave answer n (closure_written count) result res.new }
 {
-    res.fill(BLANK);
+    blank(res);
     code(closure_on(dim, count, max_replicas, epsilon, vector, centroids, res))
 }
 
@@ -220,7 +227,7 @@ pub fn families_label(
     ensures { let n = length res.old in
         Gave (label_call mode dim k row.now centroids.now n) n bytes16 result res.new }
 {
-    res.fill(BLANK);
+    blank(res);
     code(label_on(mode, dim, k, row, centroids, res))
 }
 

@@ -1,4 +1,5 @@
-// What the bench host calls on bytes, each by the function of that name in `exports`: numbers and little-endian bytes in, a number and bytes out.
+// What the bench host calls on bytes, each by the function of that name, `_old_way` left off, in `exports`: numbers and little-endian bytes in, a
+// number and bytes out.
 ghost use Rattle.std.specs.Prelude.{◌≡◌, length};
 ghost use Rattle.words.specs.Bytes.{bytes16};
 ghost use Rattle.labels.specs.declared.mode.Mode.TheVariants.{Strict, OldWay};

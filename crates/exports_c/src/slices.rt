@@ -1,4 +1,5 @@
-// The calls over typed slices, each by the function of that name in `exports`, for hosts that hold floats, and for comparisons.
+// The calls over typed slices, each by the function of that name, `_old_way` left off, in `exports`, for hosts that hold floats, and for
+// comparisons.
 ghost use Rattle.std.specs.Prelude.{◌≡◌, [], ◌∷◌, length};
 ghost use Rattle.sums.specs.Rows.{rows_from};
 ghost use Rattle.sums.specs.Sums.{zero32};

@@ -1,24 +1,24 @@
--- What `give_row` leaves, and the rounds of `balance_clusters`. Assumes nothing.
+-- What `give_row` leaves, the rounds of balancing, and cells that are lent as rows. Assumes nothing.
 use mathlib.Core.Path.{◌≡◌, refl, sym, ap, ◌∙◌}
 use mathlib.Core.List.{List, []}
 use mathlib.Core.Bool.{true}
 use mathlib.Core.Logic.{◌⊎◌, inl, inr}
-use Prim.Native.Nat.{ℕ, suc, ◌+◌, ◌-◌, ◌/◌, ◌≤◌, ◌<◌}
-use native.Mathlib.Nat.{le-div_iff_mul-le, div-le_self}
+use Prim.Native.Nat.{ℕ, zero, suc, ◌+◌, ◌-◌, ◌*◌, ◌/◌, ◌≤◌, ◌<◌}
+use native.Mathlib.Nat.{le-div_iff_mul-le, div-le_self, div-zero, mul-div_cancel}
 use native.Mathlib.Omega.{arith}
 use lib.Dec.{ltb}
 use borrow.Author.Tests.{lt-ltb, le-ltb, ltb-true}
 use lib.ListN.{length, get_or, set, take, drop}
 use lib.Ieee.{Float, lt}
-use Rattle.sums.specs.Rows.{Row, row_at}
+use Rattle.sums.specs.Rows.{Row, rows_from, row_at}
 use Rattle.sums.specs.Table.{rows_of}
 use Rattle.sums.specs.declared.readings.Rows.{Rows}
 use Rattle.sums.specs.Sums.{zero32, count32}
 use Rattle.sums.specs.Cells.{Below}
-use Rattle.sums.proofs.Rows.{row_at_lem}
+use Rattle.sums.proofs.Rows.{row_at_lem, rows_front}
 use Rattle.grouping.specs.Parts.{sizes_of, flat}
 use Rattle.grouping.specs.Balance.{allowed, seek, moved, giver, taker, round, balanced, moves, closest_of, toward}
-use Rattle.grouping.specs.PartsInside.{Laid, total}
+use Rattle.grouping.specs.PartsInside.{table_of, Laid, total}
 use Rattle.grouping.proofs.Lists.{cond_same, below_same}
 use Rattle.grouping.proofs.Layouts.{sizes_length, sizes_at, sizes_total, start_le, part_at, cut, cut_flat, cut_sizes}
 use Rattle.grouping.proofs.Allowances.{plain, allowance, share_allowed, over_test}
@@ -204,3 +204,18 @@ pub record Balancing (rows centroids : List Row) (weight : Float) (m : ℕ) (par
 -- the parts balanced, and how many rows moved
 abbrev pub Balanced : List Row → List Row → ℕ → Float → List (List ℕ) → List ℕ → List ℕ → ℕ → Type 0
 Balanced rows centroids share weight ps part sizes n = Done (toward rows centroids) share (allowed share weight) ps part sizes n
+
+-- ---- cells that are lent as rows
+
+-- where there is a whole row, it has a value
+pub wide : (dim : ℕ) (cells : List Float) (n : ℕ) → n ≡ length cells / dim → 0 < n → 0 < dim
+wide zero cells n e h = absurd (omega (arith, e, div-zero (length cells)))
+wide (suc dim) cells n e h = omega arith
+
+-- the whole rows in front are all of them
+pub whole_front : (dim : ℕ) (cells : List Float) (n : ℕ) → n ≡ length cells / dim → rows_from dim n (take (n * dim) cells) ≡ table_of dim cells
+whole_front dim cells n e = rows_front dim n (n * dim) cells (omega arith) ∙ rw e refl
+
+-- and of rows that are whole none is left over
+pub whole_table : (rows : Rows) → 0 < rows.dim → table_of rows.dim rows.values.now ≡ rows_of rows
+whole_table rows some = ap (λ n. rows_from rows.dim n rows.values.now) (ap (λ n. n / rows.dim) rows.whole ∙ mul-div_cancel rows.count some)

@@ -1,16 +1,19 @@
 -- One split, on lists: k-means, the rows gathered and balanced put together. Assumes nothing.
 use mathlib.Core.Path.{◌≡◌, refl, sym, ap, ◌∙◌}
-use mathlib.Core.Bool.{Bool}
+use mathlib.Core.Bool.{Bool, true}
 use mathlib.Core.List.{List, [], ◌++◌}
 use Prim.Native.Nat.{ℕ, ◌+◌, ◌*◌, ◌≤◌, ◌<◌}
 use native.Mathlib.Omega.{arith}
-use lib.Ieee.{Float}
+use lib.Ieee.{Float, lt}
 use lib.ListN.{length, take, drop, get_or, length-map}
 use Rattle.sums.specs.Rows.{Row, rows_at}
 use Rattle.sums.specs.Cells.{Below}
+use Rattle.sums.specs.Sums.{zero32}
 use Rattle.sums.proofs.Fronts.{Front, front, lent_front}
 use Rattle.sums.proofs.Passes.{cursor_own}
-use Rattle.std.specs.Prelude.{Result as Outcome, Ok}
+use Rattle.std.specs.Prelude.{Result as Outcome, Ok, Err}
+use Rattle.std.specs.Result.{is_err}
+use Rattle.sums.proofs.Told.{number_some}
 use Rattle.sums.specs.Draws.{Drawn}
 use Rattle.sums.specs.declared.cursor.Draws.{Draws}
 use Rattle.sums.specs.declared.refusals.Refusal.{Refusal}
@@ -23,13 +26,20 @@ use Rattle.kmeans.specs.Inside.{Limits, held_of}
 use Rattle.kmeans.specs.KMeans.{Result, kmeans, for_grouping}
 use Rattle.kmeans.proofs.Promises.{labels_below, unplaced_most}
 use Rattle.grouping.specs.Parts.{gathered, flat}
-use Rattle.grouping.specs.Balance.{share}
+use Rattle.grouping.specs.Balance.{share, balance}
 use Rattle.grouping.specs.Groups.{Rule, rule_of, balance_if, parts_of, made_by, lost_by}
 use Rattle.grouping.specs.PartsInside.{Laid}
 use Rattle.grouping.specs.Inside.{Split}
+use Rattle.grouping.specs.declared.split.Divided.{Divided}
 use Rattle.grouping.proofs.Lists.{below_same}
 use Rattle.grouping.proofs.Gathers.{gathered_length}
 use Rattle.grouping.proofs.BalancePromises.{gathered_same}
+
+-- ---- balancing where the weight is above zero
+pub balanced_above : (rows centroids : List Row) (share : ℕ) (weight : Float) (ps : List (List ℕ)) {part sizes : List ℕ} → lt zero32 weight ≡ true
+    → Laid (balance rows centroids share weight ps) part sizes → Laid (balance_if rows centroids share weight ps) part sizes
+unfolding balance_if
+balanced_above rows centroids share weight ps e l = rw e l
 
 -- ---- the labels that k-means gives
 
@@ -94,23 +104,28 @@ pub split_space : {dim k rows n labels gathered centroids training : ℕ} (confi
 split_space config l few enough e g c t spherical f = rw (e, f) (((l.0, (l.1.0, few)), (enough, (omega arith, omega arith))), (g, (c, t)))
 
 -- what a split gives by k-means and by the test of the rows that it left unplaced
-pub split_done : {k : ℕ} (mode : Mode) (dim : ℕ) {group labels : List ℕ} {old new : Draws} (kept : Kept) {centroids : List Row} (table : List Row) (weight : Float) (spherical : Bool) {part sizes : List ℕ} (r : Outcome ℕ Refusal)
+pub split_done : {k : ℕ} (mode : Mode) (dim : ℕ) {group labels : List ℕ} {old new : Draws} (kept : Kept) {centroids : List Row} (table : List Row) (weight : Float) (spherical : Bool) {part sizes : List ℕ} (r : Divided)
     → old.cursor.at < length old.list.now → old.cursor.pass < 4294967296 → length group ≤ 4096
     → Ran (for_grouping spherical) k dim (rows_at table group) old new kept labels centroids
-    → number_in r ≡ unplaced_refusal mode kept.unplaced
-    → ((unplaced : ℕ) → r ≡ Ok unplaced → (unplaced ≡ kept.unplaced) × Laid (balance_if table centroids (share (length group) k) weight (gathered k group labels)) part sizes)
+    → r.unplaced ≡ kept.unplaced → number_in r.done ≡ unplaced_refusal mode kept.unplaced
+    → (number_in r.done ≡ 0 → Laid (balance_if table centroids (share (length group) k) weight (gathered k group labels)) part sizes)
     → Split mode (rule_of old.list.now dim table k weight spherical) group old new r part sizes
 unfolding parts_of made_by lost_by
-split_done {k} mode dim {group} {old = old} kept table weight spherical r inside bits few ran refused b =
+split_done {k} mode dim {group} {old = old} kept table weight spherical r inside bits few ran same refused b =
     let draws = old.list.now in
     let rule = rule_of draws dim table k weight spherical in
     let n = old.cursor.at + old.cursor.pass * length draws in
     let lost : kept.unplaced ≡ lost_by rule n group = ap (λ (r : Result). r.unplaced) (ran.steps n (cursor_own draws old.cursor inside bits)).0 in
     record {
       kept = ran.kept;
-      few = λ u e. omega (arith, (b u e).0, lost, lost_few rule n group);
+      few = omega (arith, same, lost, lost_few rule n group);
       steps = λ n p.
           let w = ran.steps n p in
           let u : kept.unplaced ≡ lost_by rule n group = ap (λ (r : Result). r.unplaced) w.0 in
-          ((refused ∙ ap (unplaced_refusal mode) u, w.1), λ x e. ((b x e).0 ∙ u, rw (← ap (λ (r : Result). r.labels) w.0, ← ap (λ (r : Result). r.centroids) w.0) (b x e).1));
+          ((refused ∙ ap (unplaced_refusal mode) u, λ e. rw (← ap (λ (r : Result). r.labels) w.0, ← ap (λ (r : Result). r.centroids) w.0) (b e)), (w.1, same ∙ u));
     }
+
+-- what is refused has a number
+pub refused_some : {A : Type 0} (r : Outcome A Refusal) → is_err r ≡ true → number_in r ≡ 0 → ⊥
+refused_some (Ok x) e n = cc
+refused_some (Err x) e n = omega (arith, number_some x, n)

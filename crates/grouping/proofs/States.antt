@@ -36,7 +36,7 @@ use Rattle.labels.proofs.Modes.{strict_nine, none_or_strict}
 use Rattle.grouping.specs.Parts.{flat, sizes_of}
 use Rattle.grouping.specs.Groups.{Rule, rule_of, Groups, parts_of, made_by, lost_by, waits, pushed, after, group_from, grouping, ends_from}
 use Rattle.grouping.specs.PartsInside.{Laid, total}
-use Rattle.grouping.specs.Inside.{Split, Taken, pushes, Grouped}
+use Rattle.grouping.specs.Inside.{Tried, Taken, pushes, Grouped}
 use Rattle.grouping.proofs.Lists.{below_same}
 use Rattle.grouping.proofs.Layouts.{sizes_total}
 use Rattle.grouping.proofs.SplitPromises.{parts_kept}
@@ -367,7 +367,7 @@ module _
         unspent = not_spent splits budget h.spent some_left
 
         -- one that no number refuses is split
-        pub divided : Split mode rule group draws new cut last sizes
+        pub divided : Tried mode rule group draws new cut last sizes
         divided = t.tried enough some_left
 
         -- the parts that the split made

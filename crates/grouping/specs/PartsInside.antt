@@ -1,6 +1,7 @@
 -- What the functions inside say of their slices.
-use Rattle.std.specs.Prelude.{◌≡◌, cond, List, [], ◌∷◌, ◌++◌, ℕ, ◌+◌, ◌-◌, ◌≤◌, ltb, length, take, drop}
+use Rattle.std.specs.Prelude.{◌≡◌, cond, List, [], ◌∷◌, ◌++◌, ℕ, ◌+◌, ◌-◌, ◌/◌, ◌≤◌, ltb, length, take, drop, Float}
 use Rattle.sums.specs.Cells.{Below}
+use Rattle.sums.specs.Rows.{Row, rows_from}
 use Rattle.sums.specs.declared.readings.Rows.{Rows}
 use Rattle.grouping.specs.Parts.{sizes_of, flat}
 
@@ -29,3 +30,12 @@ total (n ∷ ns) = n + total ns
 abbrev pub Parted : Rows → Rows → List ℕ → List ℕ → Type 0
 Parted rows centroids part sizes =
     record { below : Below rows.count part; centred : length sizes ≡ centroids.count; alike : centroids.dim ≡ rows.dim; whole : total sizes ≡ length part; few : length part ≤ 4096 }
+
+-- cells that are lent as rows of dim values: as many as there are whole ones
+abbrev pub table_of : ℕ → List Float → List Row
+table_of dim values = rows_from dim (length values / dim) values
+
+-- and what balancing is lent of them, likewise
+abbrev pub PartedCells : ℕ → List Float → List Float → List ℕ → List ℕ → Type 0
+PartedCells dim values centroids part sizes =
+    record { below : Below (length values / dim) part; centred : length sizes ≡ length centroids / dim; whole : total sizes ≡ length part; few : length part ≤ 4096 }

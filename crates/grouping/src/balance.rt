@@ -5,7 +5,7 @@ ghost use Rattle.sums.specs.Table.{rows_of};
 ghost use Rattle.sums.specs.Sums.{zero32};
 ghost use Rattle.sums.specs.Cells.{Below};
 ghost use Rattle.grouping.specs.Balance.{share as share_lem, allowed, closest_of, moved, balance, moves, toward};
-ghost use Rattle.grouping.specs.PartsInside.{Laid, Parted, total, carried};
+ghost use Rattle.grouping.specs.PartsInside.{table_of, Laid, Parted, PartedCells, total, carried};
 
 use labels::positions::{RowNumber, row_place};
 use sums::math;
@@ -94,7 +94,7 @@ fn give_row(
 }
 
 // At most ten rounds: the first cluster above the allowance gives a row to the first below the share. How many rows moved.
-pub fn balance_clusters(
+fn run_rounds(
     rows: Rows<'_>,
     centroids: Rows<'_>,
     weight: f32,
@@ -139,4 +139,29 @@ pub fn balance_clusters(
         n += 1;
     }
     n
+}
+
+// The same of cells that are lent: readings and centroids are as many rows of `dim` values as there are whole ones.
+pub fn balance_clusters(
+    values: &[f32],
+    dim: usize,
+    centroids: &[f32],
+    weight: f32,
+    part: &mut [u16],
+    sizes: &mut [u16],
+) -> u16
+    requires parted { PartedCells dim values.now centroids.now part.old sizes.old }
+    requires sizes_nonzero { (0 < length sizes.old) × (length sizes.old ≤ length part.old) }
+    requires weight_value { lt zero32 weight ≡ true }
+    ensures { let table = table_of dim values.now in let centres = table_of dim centroids.now in
+        let share = share_lem (length part.old) (length sizes.old) in
+        (ps : List (List ℕ)) → Laid ps part.old sizes.old
+        → Laid (balance table centres share weight ps) part.new sizes.new
+        × (result ≡ moves (toward table centres) share (allowed share weight) 10 ps) }
+{
+    let count = values.len() / dim;
+    let k = centroids.len() / dim;
+    let rows = Rows::new(&values[..count * dim], dim, count);
+    let centres = Rows::new(&centroids[..k * dim], dim, k);
+    run_rounds(rows, centres, weight, part, sizes)
 }

@@ -19,6 +19,7 @@ use sums::rooms;
 // Balancing where the weight is above zero, which a NaN is not.
 #[tactic(auto, unfolding(crate::specs::Groups::balance_if))]
 fn balance_if(rows: Rows<'_>, centroids: Rows<'_>, weight: f32, part: &mut [u16], sizes: &mut [u16])
+    requires wide { 0 < rows.dim }
     requires parted { Parted rows centroids part.old sizes.old }
     requires sizes_nonzero { (0 < length sizes.old) × (length sizes.old ≤ length part.old) }
     ensures { let table = rows_of rows.entry in let centres = rows_of centroids.entry in
@@ -27,13 +28,20 @@ fn balance_if(rows: Rows<'_>, centroids: Rows<'_>, weight: f32, part: &mut [u16]
         part.new sizes.new }
 {
     if 0.0f32 < weight {
-        balance::balance_clusters(rows, centroids, weight, part, sizes);
+        balance::balance_clusters(rows.values, rows.dim, centroids.values, weight, part, sizes);
     }
+}
+
+// How many of a group's rows its k-means left unplaced, and whether they refuse the group.
+#[derive(Clone, Copy)]
+pub struct Divided {
+    pub unplaced: u32,
+    pub done: Result<(), Refusal>,
 }
 
 // K-means over the group's rows in listed order; then, unless rows that it left unplaced refuse the group, the rows gathered per label, and
 // balancing. `part` is the group's stretch of the row order: afterwards it holds the parts, the last first, and `sizes` how many rows each
-// part has. How many of the group's rows k-means left unplaced.
+// part has.
 pub fn split_cluster(
     rows: Rows<'_>,
     config: GroupingConfig,
@@ -42,7 +50,7 @@ pub fn split_cluster(
     sizes: &mut [u16],
     gathered: &mut [f32],
     training: &mut [f32],
-) -> Result<u32, Refusal>
+) -> Divided
     requires room { Room rows (length sizes.old) (length gathered.old) (length training.old) }
     requires sizes_in_bounds { (length sizes.old ≤ length part.old) × ((length part.old ≤ rows.count) × Below rows.count part.old) }
     ensures { let rule = rule_of draws.old.list.now rows.entry.dim (rows_of rows.entry) (length sizes.old)
@@ -67,7 +75,10 @@ pub fn split_cluster(
         &mut training[..cells],
     );
     let unplaced = kept.unplaced;
-    config.mode.check(unplaced)?;
+    let done = config.mode.check(unplaced);
+    if done.is_err() {
+        return Divided { unplaced, done };
+    }
     copied[..n].copy_from_slice(part);
     gather::gather(part, &copied[..n], &labels[..n], sizes);
     let centres = Rows {
@@ -76,5 +87,5 @@ pub fn split_cluster(
         count: k,
     };
     balance_if(rows, centres, config.weight, part, sizes);
-    Ok(unplaced)
+    Divided { unplaced, done }
 }

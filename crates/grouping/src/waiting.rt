@@ -64,7 +64,9 @@ fn split_or_refuse(
     if splits == config.budget {
         return Err(Refusal::Budget);
     }
-    split::split_cluster(rows, config, draws, part, sizes, gathered, training)
+    let cut = split::split_cluster(rows, config, draws, part, sizes, gathered, training);
+    cut.done?;
+    Ok(cut.unplaced)
 }
 
 // All rows wait as one group. The last waiting group is taken: listed where it is small enough, and split where it is not.

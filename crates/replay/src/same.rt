@@ -1,5 +1,5 @@
 // Results held against stored bytes.
-ghost use Rattle.std.specs.Prelude.{◌≡◌, ℕ, map, ◌*◌, length};
+ghost use Rattle.std.specs.Prelude.{◌≡◌, ℕ, map, ◌*◌, eqb, length};
 ghost use Rattle.std.specs.Float.{binary32};
 ghost use Rattle.std.specs.Float.Ieee.{to_bits};
 ghost use Rattle.sums.specs.Refusals.{same_all};
@@ -21,16 +21,16 @@ pub fn bytes(a: &[u8], b: &[u8]) -> bool
 pub trait Word: Copy {
     ghost of: { Self → ℕ };
 
-    // The word that it is stored as.
-    fn word(self) -> u32
-        ensures { result ≡ of self };
+    // Whether it is stored as this word; each type has its own test, so that one of them alone can be wrong.
+    fn stored_as(self, word: u32) -> bool
+        ensures { result ≡ eqb (of self) word };
 }
 
 impl Word for u16 {
     ghost of = { λ x. x };
 
-    fn word(self) -> u32 {
-        u32::from(self)
+    fn stored_as(self, word: u32) -> bool {
+        u32::from(self) == word
     }
 }
 
@@ -38,8 +38,8 @@ impl Word for u16 {
 impl Word for f32 {
     ghost of = { to_bits binary32 };
 
-    fn word(self) -> u32 {
-        bits::bits_of(self)
+    fn stored_as(self, word: u32) -> bool {
+        bits::bits_of(self) == word
     }
 }
 
@@ -49,7 +49,7 @@ pub fn words<T: Word>(values: &[T], stored: &[u8]) -> bool
     ensures { result ≡ same_all (map T.of values.now) (words_from (length values.now) stored.now) }
 {
     for (i, x) in values.iter().enumerate() {
-        if x.word() != u32::read_at(stored, i * 4) {
+        if !x.stored_as(u32::read_at(stored, i * 4)) {
             return false;
         }
     }

@@ -1,15 +1,13 @@
-use Rattle.std.proofs.Common.{◌≡◌, ℕ, ◌≤◌, ◌*◌, List, ◌++◌, Err, length, drop, refl, arith}
+use Rattle.std.proofs.Common.{◌≡◌, ℕ, ◌≤◌, ◌*◌, List, ◌++◌, length, drop, refl, sym, ◌∙◌, arith}
 use native.Mathlib.Nat.{mul-le-mul, mul-le-mul_right}
 use Rattle.sums.specs.Rows.{rows_from, rows_at}
 use Rattle.sums.specs.Table.{rows_of}
 use Rattle.sums.proofs.Fronts.{Front, front}
-use Rattle.sums.specs.Refused.{number_in}
-use Rattle.labels.specs.Mode.{unplaced_refusal}
 use Rattle.kmeans.specs.KMeans.{for_grouping}
 use Rattle.grouping.specs.Parts.{gathered}
 use Rattle.grouping.specs.PartsInside.{Laid}
 use Rattle.grouping.proofs.Layouts.{sizes_total}
-use Rattle.grouping.proofs.Splits.{Ran, Labelled, labelled, came_back, gather_space, gathered_laid, split_done}
+use Rattle.grouping.proofs.Splits.{Ran, Labelled, labelled, came_back, gather_space, gathered_laid, split_done, refused_some}
 use Rattle.grouping.proofs.split.split_cluster.Goals as goal
 use Rattle.grouping.proofs.split.split_cluster.Goals.{After-gather, After-run_kmeans_flat-kept}
 
@@ -49,13 +47,11 @@ laid g =
     gathered_laid (length g.args.sizes.now) (front copied refl (drop (length g.args.part.now) g.room-copied.result)).is
     (came_back _ 4096 _ _ g.room-labels.ensures (omega (arith, g.requires.sizes_in_bounds.1.0, g.requires.room.limits.1.1)) g.run_kmeans_flat-kept.auto.labels).is g.gather.ensures
 
-pub returns-in_err-check : goal.returns-in_err-check
-returns-in_err-check c =
-    let r = (goal.at.returns-in_err-check c).After-run_kmeans_flat-kept in
-    let t : number_in c.check.result ≡ unplaced_refusal c.args.config.mode c.run_kmeans_flat-kept.result.unplaced = c.check.ensures in
-    let h : c.from_residual.result ≡ Err c.in_err-check.field-0.0 = grind arith in
-    rw h (split_done c.args.config.mode c.args.rows.dim c.run_kmeans_flat-kept.result (rows_of c.args.rows) c.args.config.weight c.args.config.spherical (Err c.in_err-check.field-0.0) c.args.draws.now.inside c.args.draws.now.bits (few r) (ran r)
-    (rw c.in_err-check.was at t) (λ u e. let z : ◌≡◌ {A = ℕ} 0 1 = cc in absurd (omega arith)))
+pub returns-then-is_err : goal.returns-then-is_err
+returns-then-is_err c =
+    let r = (goal.at.returns-then-is_err c).After-run_kmeans_flat-kept in
+    split_done c.args.config.mode c.args.rows.dim c.run_kmeans_flat-kept.result (rows_of c.args.rows) c.args.config.weight c.args.config.spherical _ c.args.draws.now.inside c.args.draws.now.bits (few r) (ran r)
+    refl c.check-done.ensures (λ e. absurd (refused_some c.check-done.result (sym c.is_err.ensures.value ∙ c.if-is_err.true) e))
 
 pub gather-requires : goal.gather-requires
 gather-requires c =
@@ -80,10 +76,6 @@ pub returns : goal.returns
 returns c =
     let r = (goal.at.returns c).After-run_kmeans_flat-kept in
     let g = (goal.at.returns c).After-gather in
-    let t : number_in c.check.result ≡ unplaced_refusal c.args.config.mode c.run_kmeans_flat-kept.result.unplaced = c.check.ensures in
     split_done c.args.config.mode c.args.rows.dim c.run_kmeans_flat-kept.result (rows_of c.args.rows) c.args.config.weight c.args.config.spherical _ c.args.draws.now.inside c.args.draws.now.bits (few r) (ran r)
-    (rw c.in_ok-check.was at t) (λ u e. (
-      cc,
-      rw ((centroids_hold g).is, c.gather.auto.part, c.gather.auto.sizes) at
-          (c.balance_if.ensures (made g) (laid g)),
-    ))
+    refl c.check-done.ensures (λ e. rw ((centroids_hold g).is, c.gather.auto.part, c.gather.auto.sizes) at
+    (c.balance_if.ensures (made g) (laid g)))

@@ -5,7 +5,7 @@ use Rattle.grouping.specs.Balance.{allowed}
 use lib.ListN.{length}
 use lib.Dec.{ltb}
 use Prim.Native.Nat.{◌-◌}
-use Rattle.grouping.proofs.balance.balance_clusters.Given as goal
+use Rattle.grouping.proofs.balance.run_rounds.Given as goal
 
 abbrev pub invariant-loop-i : goal.invariant-loop-i
 invariant-loop-i l = Seeking (λ m. ltb (allowed l.share l.weight) m) l.sizes l.i
