@@ -29,7 +29,7 @@ use Rattle.grouping.specs.Parts.{gathered, flat}
 use Rattle.grouping.specs.Balance.{share, balance}
 use Rattle.grouping.specs.Groups.{Rule, rule_of, balance_if, parts_of, made_by, lost_by}
 use Rattle.grouping.specs.PartsInside.{Laid}
-use Rattle.grouping.specs.Inside.{Split}
+use Rattle.grouping.specs.Inside.{Split, Tried}
 use Rattle.grouping.specs.declared.split.Divided.{Divided}
 use Rattle.grouping.proofs.Lists.{below_same}
 use Rattle.grouping.proofs.Gathers.{gathered_length}
@@ -104,14 +104,14 @@ pub split_space : {dim k rows n labels gathered centroids training : ℕ} (confi
 split_space config l few enough e g c t spherical f = rw (e, f) (((l.0, (l.1.0, few)), (enough, (omega arith, omega arith))), (g, (c, t)))
 
 -- what a split gives by k-means and by the test of the rows that it left unplaced
-pub split_done : {k : ℕ} (mode : Mode) (dim : ℕ) {group labels : List ℕ} {old new : Draws} (kept : Kept) {centroids : List Row} (table : List Row) (weight : Float) (spherical : Bool) {part sizes : List ℕ} (r : Divided)
+pub divided_done : {k : ℕ} (mode : Mode) (dim : ℕ) {group labels : List ℕ} {old new : Draws} (kept : Kept) {centroids : List Row} (table : List Row) (weight : Float) (spherical : Bool) {part sizes : List ℕ} (r : Divided)
     → old.cursor.at < length old.list.now → old.cursor.pass < 4294967296 → length group ≤ 4096
     → Ran (for_grouping spherical) k dim (rows_at table group) old new kept labels centroids
     → r.unplaced ≡ kept.unplaced → number_in r.done ≡ unplaced_refusal mode kept.unplaced
     → (number_in r.done ≡ 0 → Laid (balance_if table centroids (share (length group) k) weight (gathered k group labels)) part sizes)
     → Split mode (rule_of old.list.now dim table k weight spherical) group old new r part sizes
 unfolding parts_of made_by lost_by
-split_done {k} mode dim {group} {old = old} kept table weight spherical r inside bits few ran same refused b =
+divided_done {k} mode dim {group} {old = old} kept table weight spherical r inside bits few ran same refused b =
     let draws = old.list.now in
     let rule = rule_of draws dim table k weight spherical in
     let n = old.cursor.at + old.cursor.pass * length draws in
@@ -129,3 +129,30 @@ split_done {k} mode dim {group} {old = old} kept table weight spherical r inside
 pub refused_some : {A : Type 0} (r : Outcome A Refusal) → is_err r ≡ true → number_in r ≡ 0 → ⊥
 refused_some (Ok x) e n = cc
 refused_some (Err x) e n = omega (arith, number_some x, n)
+
+-- The result alone is told as `Tried` has it: the unplaced rows, where they do not refuse the group, or the refusal.
+pub tried_of : {mode : Mode} {rule : Rule} {group : List ℕ} {old new : Draws} (d : Divided) {part sizes : List ℕ} (r : Outcome ℕ Refusal)
+    → number_in r ≡ number_in d.done → ((unplaced : ℕ) → r ≡ Ok unplaced → unplaced ≡ d.unplaced)
+    → Split mode rule group old new d part sizes → Tried mode rule group old new r part sizes
+tried_of d r same told s =
+    record {
+      kept = s.kept;
+      few = λ u e. omega (arith, told u e, s.few);
+      steps = λ n p.
+          let w = s.steps n p in
+          ((same ∙ w.0.0, w.1.0), λ u e. (told u e ∙ w.1.1, w.0.1 (sym same ∙ ap number_in e)));
+    }
+
+-- and so what a split gives by k-means and by the test of its unplaced rows is told of a result
+pub split_done : {k : ℕ} (mode : Mode) (dim : ℕ) {group labels : List ℕ} {old new : Draws} (kept : Kept) {centroids : List Row} (table : List Row) (weight : Float) (spherical : Bool) {part sizes : List ℕ} (r : Outcome ℕ Refusal)
+    → old.cursor.at < length old.list.now → old.cursor.pass < 4294967296 → length group ≤ 4096
+    → Ran (for_grouping spherical) k dim (rows_at table group) old new kept labels centroids
+    → number_in r ≡ unplaced_refusal mode kept.unplaced
+    → ((unplaced : ℕ) → r ≡ Ok unplaced → (unplaced ≡ kept.unplaced) × Laid (balance_if table centroids (share (length group) k) weight (gathered k group labels)) part sizes)
+    → Tried mode (rule_of old.list.now dim table k weight spherical) group old new r part sizes
+split_done mode dim kept table weight spherical (Ok unplaced) inside bits few ran refused b =
+    let d : Divided = record { unplaced = kept.unplaced; done = Ok tt } in
+    tried_of d (Ok unplaced) refl (λ u e. (b u e).0) (divided_done mode dim kept table weight spherical d inside bits few ran refl refused (λ e. (b unplaced refl).1))
+split_done mode dim kept table weight spherical (Err x) inside bits few ran refused b =
+    let d : Divided = record { unplaced = kept.unplaced; done = Err x } in
+    tried_of d (Err x) refl (λ u e. absurd cc) (divided_done mode dim kept table weight spherical d inside bits few ran refl refused (λ e. absurd (omega (arith, number_some x, e))))

@@ -7,7 +7,7 @@ use Rattle.kmeans.specs.KMeans.{for_grouping}
 use Rattle.grouping.specs.Parts.{gathered}
 use Rattle.grouping.specs.PartsInside.{Laid}
 use Rattle.grouping.proofs.Layouts.{sizes_total}
-use Rattle.grouping.proofs.Splits.{Ran, Labelled, labelled, came_back, gather_space, gathered_laid, split_done, refused_some}
+use Rattle.grouping.proofs.Splits.{Ran, Labelled, labelled, came_back, gather_space, gathered_laid, divided_done, refused_some}
 use Rattle.grouping.proofs.split.split_cluster.Goals as goal
 use Rattle.grouping.proofs.split.split_cluster.Goals.{After-gather, After-run_kmeans_flat-kept}
 
@@ -50,7 +50,7 @@ laid g =
 pub returns-then-is_err : goal.returns-then-is_err
 returns-then-is_err c =
     let r = (goal.at.returns-then-is_err c).After-run_kmeans_flat-kept in
-    split_done c.args.config.mode c.args.rows.dim c.run_kmeans_flat-kept.result (rows_of c.args.rows) c.args.config.weight c.args.config.spherical _ c.args.draws.now.inside c.args.draws.now.bits (few r) (ran r)
+    divided_done c.args.config.mode c.args.rows.dim c.run_kmeans_flat-kept.result (rows_of c.args.rows) c.args.config.weight c.args.config.spherical _ c.args.draws.now.inside c.args.draws.now.bits (few r) (ran r)
     refl c.check-done.ensures (λ e. absurd (refused_some c.check-done.result (sym c.is_err.ensures.value ∙ c.if-is_err.true) e))
 
 pub gather-requires : goal.gather-requires
@@ -76,6 +76,6 @@ pub returns : goal.returns
 returns c =
     let r = (goal.at.returns c).After-run_kmeans_flat-kept in
     let g = (goal.at.returns c).After-gather in
-    split_done c.args.config.mode c.args.rows.dim c.run_kmeans_flat-kept.result (rows_of c.args.rows) c.args.config.weight c.args.config.spherical _ c.args.draws.now.inside c.args.draws.now.bits (few r) (ran r)
+    divided_done c.args.config.mode c.args.rows.dim c.run_kmeans_flat-kept.result (rows_of c.args.rows) c.args.config.weight c.args.config.spherical _ c.args.draws.now.inside c.args.draws.now.bits (few r) (ran r)
     refl c.check-done.ensures (λ e. rw ((centroids_hold g).is, c.gather.auto.part, c.gather.auto.sizes) at
     (c.balance_if.ensures (made g) (laid g)))
